@@ -1,0 +1,196 @@
+-- Rounding on a stepped ladder is rounding to the tick of the band that the number lies in.
+use Prim.Native.Nat.{ℕ, _+_, _<_, _≤_}
+use mathlib.Core.Path.{_≡_, refl, sym, ap, _∙_, subst}
+use mathlib.Core.Bool.{Bool, true, false, cond, _&&_}
+use mathlib.Core.List.{List, [], _∷_, map}
+use native.Mathlib.Omega.{arith}
+use lib.Dec.{leb}
+use lib.ListN.{length, getD, drop}
+use lib.IntN.{ℤ, pos, negℤ, natAbs, _+ℤ_}
+use lib.Signed.{_≤ℤ_, _<ℤ_, ltZ}
+use Rattle.std.specs.Numbers.{remEuclid}
+use Rattle.std.specs.Options.{Cases, isSome}
+use Rattle.std.proofs.shelf.Signed.{ints, by-ltZ}
+use Rattle.std.proofs.shelf.Tests.{and-parts, cond-true, cond-false, true≢false}
+use Rattle.std.proofs.shelf.Lists.{at-drop-more}
+use Rattle.ladders.specs.Multiples.{multiple}
+use Rattle.ladders.specs.Rounding.{Above, Below, Near}
+use Rattle.ladders.specs.Bands.{tick-at, stepped, band, described, description, rises, band-fault, start-fault, first-fault, later-fault, ladder-fault}
+use Rattle.ladders.specs.Faults.{or-else, tick-fault}
+use Rattle.ladders.specs.declared.bands.Band.{Band}
+use Rattle.ladders.specs.Prices.{within}
+use Rattle.ladders.specs.declared.faults.LadderFault.{LadderFault}
+use Rattle.ladders.specs.declared.faults.LadderFault.the-variants.{TooManyBands, StartOutOfRange, StartsNotRising, StartOffTick}
+use Rattle.std.specs.declared.option.Option.{Option}
+use Rattle.std.specs.declared.option.Option.the-variants.{Some, None}
+use Rattle.ladders.specs.declared.ticks.Tick.{Tick}
+use Rattle.ladders.specs.declared.bands.Step.{Step}
+use Rattle.ladders.proofs.Orders.{lt-from, lt-test, le-test}
+use Rattle.ladders.proofs.ToTick.{up-is-above, up-is-near}
+
+some-is-not-none : (f : LadderFault) → Some f ≡ None → ⊥
+some-is-not-none f e = let z : _≡_ {A = ℕ} 0 1 = cc in omega arith
+
+none-of-both : (f g : Option LadderFault) → or-else f g ≡ None → (f ≡ None) × (g ≡ None)
+none-of-both None g e = (refl, e)
+none-of-both (Some f) g e = absurd (some-is-not-none f e)
+
+none-where : (t : Bool) (g : Option LadderFault) (f : LadderFault) → cond t g (Some f) ≡ None → (t ≡ true) × (g ≡ None)
+none-where true g f e = (refl, e)
+none-where false g f e = absurd (some-is-not-none f e)
+
+-- under the next start the tick is t, and from there on it is that of the later bands
+in-first : (t : Tick) (b : Step) (bs : List Step) (v : ℤ) → v <ℤ (b .start) → tick-at t (b ∷ bs) v ≡ t
+in-first t b bs v h = cond-true (ltZ v (b .start)) t (tick-at (b .tick) bs v) (lt-test v (b .start) h)
+
+in-later : (t : Tick) (b : Step) (bs : List Step) (v : ℤ) → (b .start) ≤ℤ v → tick-at t (b ∷ bs) v ≡ tick-at (b .tick) bs v
+in-later t b bs v h = cond-false (ltZ v (b .start)) t (tick-at (b .tick) bs v) (le-test v (b .start) h)
+
+lawful-first : (t : Tick) (b : Step) (bs : List Step) (v : ℤ) → v <ℤ (b .start) → stepped t (b ∷ bs) v ≡ multiple (t .points) v
+lawful-first t b bs v h = ap (λ x. multiple (x .points) v) (in-first t b bs v h)
+
+lawful-later : (t : Tick) (b : Step) (bs : List Step) (v : ℤ) → (b .start) ≤ℤ v → stepped t (b ∷ bs) v ≡ stepped (b .tick) bs v
+lawful-later t b bs v h = ap (λ x. multiple (x .points) v) (in-later t b bs v h)
+
+-- what a start without a fault keeps
+sound-start : (a : Band) (k s : ℤ) → start-fault a k (Some s) ≡ None → (rises (a .start) s ≡ true) × ((multiple (natAbs (a .tick)) s && multiple (natAbs k) s) ≡ true)
+sound-start a k s e =
+    let on = cond (multiple (natAbs (a .tick)) s && multiple (natAbs k) s) None (Some StartOffTick) in
+    let risen = none-where (within s) (cond (rises (a .start) s) on (Some StartsNotRising)) StartOutOfRange e .1 in
+    let both = none-where (rises (a .start) s) on StartsNotRising risen in
+    (both .0, none-where (multiple (natAbs (a .tick)) s && multiple (natAbs k) s) None StartOffTick (both .1) .0)
+
+-- what a description without a fault says of the next band
+record Joint (t : Tick) (b : Step) (bs : List Step) : Type 0 where
+  before : multiple (t .points) (b .start) ≡ true
+  own : multiple (b .tick .points) (b .start) ≡ true
+  rest : later-fault (described b) (map described bs) ≡ None
+
+joint : (a : Band) (t : Tick) (b : Step) (bs : List Step) → a .tick ≡ pos (t .points) → later-fault a (map described (b ∷ bs)) ≡ None → Joint t b bs
+joint a t b bs e j =
+    let each = none-of-both (band-fault a (described b)) (later-fault (described b) (map described bs)) j in
+    let start = none-of-both (tick-fault (pos (b .tick .points))) (start-fault a (pos (b .tick .points)) (Some (b .start))) (each .0) .1 in
+    let ticks = and-parts _ _ (sound-start a (pos (b .tick .points)) (b .start) start .1) in
+    record {
+      before = subst (λ (k : ℤ). multiple (natAbs k) (b .start) ≡ true) e (ticks .0);
+      own = ticks .1;
+      rest = each .1;
+    }
+
+-- the band after b starts over b
+over-start : (b c : Step) (cs : List Step) → later-fault (described b) (map described (c ∷ cs)) ≡ None → (b .start) <ℤ (c .start)
+over-start b c cs j =
+    let each = none-of-both (band-fault (described b) (described c)) (later-fault (described c) (map described cs)) j in
+    let start = none-of-both (tick-fault (pos (c .tick .points))) (start-fault (described b) (pos (c .tick .points)) (Some (c .start))) (each .0) .1 in
+    lt-from (b .start) (c .start) (sound-start (described b) (pos (c .tick .points)) (c .start) start .0)
+
+-- a start is lawful in its own band
+start-lawful : (t : Tick) (b : Step) (bs : List Step) → Joint t b bs → stepped (b .tick) bs (b .start) ≡ true
+start-lawful t b [] n = n .own
+start-lawful t b (c ∷ cs) n = lawful-first (b .tick) c cs (b .start) (over-start b c cs (n .rest)) ∙ n .own
+
+above-in-band : (a : Band) (t : Tick) (bs : List Step) → a .tick ≡ pos (t .points) → later-fault a (map described bs) ≡ None → (v p : ℤ) → Above (multiple (tick-at t bs v .points)) v p → Above (stepped t bs) v p
+above-in-band a t [] e j v p r = r
+above-in-band a t (b ∷ bs) e j v p r =
+    let n = joint a t b bs e j in
+    by-ltZ v (b .start)
+    (λ under.
+    let at : Above (multiple (t .points)) v p = subst (λ (x : Tick). Above (multiple (x .points)) v p) (in-first t b bs v under) r in
+    let short : p ≤ℤ (b .start) = at .least (b .start) (n .before) (omega (arith, ints)) in
+    record {
+      on = by-ltZ p (b .start)
+          (λ l. lawful-first t b bs p l ∙ at .on)
+          (λ l. let same : p ≡ b .start = omega (arith, ints) in
+          lawful-later t b bs p l ∙ subst (λ (x : ℤ). stepped (b .tick) bs x ≡ true) (sym same) (start-lawful t b bs n));
+      reaches = at .reaches;
+      least = λ q m l. by-ltZ q (b .start)
+          (λ u. at .least q (sym (lawful-first t b bs q u) ∙ m) l)
+          (λ u. omega (arith, ints));
+    })
+    (λ over.
+    let at : Above (stepped (b .tick) bs) v p = above-in-band (described b) (b .tick) bs refl (n .rest) v p (subst (λ (x : Tick). Above (multiple (x .points)) v p) (in-later t b bs v over) r) in
+    let reached = at .reaches in
+    record {
+      on = lawful-later t b bs p (omega (arith, ints)) ∙ at .on;
+      reaches = reached;
+      least = λ q m l. at .least q (sym (lawful-later t b bs q (omega (arith, ints))) ∙ m) l;
+    })
+
+below-in-band : (a : Band) (t : Tick) (bs : List Step) → a .tick ≡ pos (t .points) → later-fault a (map described bs) ≡ None → (v p : ℤ) → Below (multiple (tick-at t bs v .points)) v p → Below (stepped t bs) v p
+below-in-band a t [] e j v p r = r
+below-in-band a t (b ∷ bs) e j v p r =
+    let n = joint a t b bs e j in
+    by-ltZ v (b .start)
+    (λ under.
+    let at : Below (multiple (t .points)) v p = subst (λ (x : Tick). Below (multiple (x .points)) v p) (in-first t b bs v under) r in
+    let reached = at .reaches in
+    record {
+      on = lawful-first t b bs p (omega (arith, ints)) ∙ at .on;
+      reaches = reached;
+      greatest = λ q m l. at .greatest q (sym (lawful-first t b bs q (omega (arith, ints))) ∙ m) l;
+    })
+    (λ over.
+    let at : Below (stepped (b .tick) bs) v p = below-in-band (described b) (b .tick) bs refl (n .rest) v p (subst (λ (x : Tick). Below (multiple (x .points)) v p) (in-later t b bs v over) r) in
+    let from : (b .start) ≤ℤ p = at .greatest (b .start) (start-lawful t b bs n) over in
+    record {
+      on = lawful-later t b bs p from ∙ at .on;
+      reaches = at .reaches;
+      greatest = λ q m l. by-ltZ q (b .start)
+          (λ u. omega (arith, ints))
+          (λ u. at .greatest q (sym (lawful-later t b bs q u) ∙ m) l);
+    })
+
+-- within a tick, and so within 1,000,000 points, from any number on there is a lawful price
+stepped-is-near : (a : Band) (t : Tick) (bs : List Step) → a .tick ≡ pos (t .points) → later-fault a (map described bs) ≡ None → (z : ℤ) → Near (stepped t bs) z
+stepped-is-near a t bs e j z =
+    let k = tick-at t bs z in
+    let some : 0 < k .points = k .lawful .0 in
+    let few : k .points ≤ 1000000 = k .lawful .1 in
+    let up = z +ℤ remEuclid (negℤ z) (pos (k .points)) in
+    let reached = above-in-band a t bs e j z up (up-is-above (k .points) z some) in
+    let short = up-is-near (k .points) z some in
+    record { price = up; on = reached .on; from = reached .reaches; to = omega (arith, ints) }
+
+-- ---- one band more in the search for the tick at v
+
+-- v lies under the start of the band at k: the tick so far is the one
+pub stops-at : (t₀ t : Tick) (steps : List Step) (k : ℕ) (b : Step) (v s : ℤ) → s ≡ b .start → k < length steps → b ≡ getD steps k b → tick-at t₀ steps v ≡ tick-at t (drop k steps) v → ltZ v s ≡ true → tick-at t₀ steps v ≡ t
+stops-at t₀ t steps k b v s start h read inv under =
+    inv
+    ∙ at-drop-more (λ bs. tick-at t bs v) steps k b h
+    ∙ ap (λ x. tick-at t (x ∷ drop (k + 1) steps) v) (sym read)
+    ∙ cond-true (ltZ v (b .start)) t (tick-at (b .tick) (drop (k + 1) steps) v) (subst (λ (x : ℤ). ltZ v x ≡ true) start under)
+
+-- v lies in the band at k or a later one
+pub goes-past : (t₀ t : Tick) (steps : List Step) (k : ℕ) (b : Step) (v s : ℤ) → s ≡ b .start → k < length steps → b ≡ getD steps k b → tick-at t₀ steps v ≡ tick-at t (drop k steps) v → ltZ v s ≡ false → tick-at t₀ steps v ≡ tick-at (b .tick) (drop (k + 1) steps) v
+goes-past t₀ t steps k b v s start h read inv over =
+    inv
+    ∙ at-drop-more (λ bs. tick-at t bs v) steps k b h
+    ∙ ap (λ x. tick-at t (x ∷ drop (k + 1) steps) v) (sym read)
+    ∙ cond-false (ltZ v (b .start)) t (tick-at (b .tick) (drop (k + 1) steps) v) (subst (λ (x : ℤ). ltZ v x ≡ false) start over)
+
+-- ---- a checked ladder
+
+-- the later bands of a ladder without a fault have none
+sound-later : (t : Tick) (bs : List Step) → isSome (ladder-fault (description t bs)) ≡ false → later-fault (band None t) (map described bs) ≡ None
+sound-later t bs e =
+    let few = none-where (leb (length (map described bs)) 3) (or-else (first-fault (band None t)) (later-fault (band None t) (map described bs))) TooManyBands (no-value (ladder-fault (description t bs)) e) in
+    none-of-both (first-fault (band None t)) (later-fault (band None t) (map described bs)) (few .1) .1
+  where
+    no-value : (o : Option LadderFault) → isSome o ≡ false → o ≡ None
+    no-value None e = refl
+    no-value (Some f) e = absurd (true≢false e)
+
+-- the answer of a tick is the ladder's, where it is the tick at v
+pub above-in-ladder : (t k : Tick) (bs : List Step) (v : ℤ) (r : Option ℤ) → isSome (ladder-fault (description t bs)) ≡ false → k ≡ tick-at t bs v → Cases r (within v ≡ false) (λ p. (within v ≡ true) × Above (multiple (k .points)) v p) → Cases r (within v ≡ false) (λ p. (within v ≡ true) × Above (stepped t bs) v p)
+above-in-ladder t k bs v None sound is r = r
+above-in-ladder t k bs v (Some p) sound is r =
+    (r .0, above-in-band (band None t) t bs refl (sound-later t bs sound) v p (subst (λ (x : Tick). Above (multiple (x .points)) v p) is (r .1)))
+
+pub below-in-ladder : (t k : Tick) (bs : List Step) (v : ℤ) (r : Option ℤ) → isSome (ladder-fault (description t bs)) ≡ false → k ≡ tick-at t bs v → Cases r (within v ≡ false) (λ p. (within v ≡ true) × Below (multiple (k .points)) v p) → Cases r (within v ≡ false) (λ p. (within v ≡ true) × Below (stepped t bs) v p)
+below-in-ladder t k bs v None sound is r = r
+below-in-ladder t k bs v (Some p) sound is r =
+    (r .0, below-in-band (band None t) t bs refl (sound-later t bs sound) v p (subst (λ (x : Tick). Below (multiple (x .points)) v p) is (r .1)))
+
+pub ladder-is-near : (t : Tick) (bs : List Step) → isSome (ladder-fault (description t bs)) ≡ false → (z : ℤ) → Near (stepped t bs) z
+ladder-is-near t bs sound z = stepped-is-near (band None t) t bs refl (sound-later t bs sound) z

@@ -1,0 +1,55 @@
+-- What is lawful on a ladder of a set.
+use Prim.Native.Nat.{ℕ, zero, suc, _<_, _≤_}
+use mathlib.Core.Path.{_≡_, refl, sym, ap, _∙_, subst}
+use mathlib.Core.Bool.{Bool, true, false}
+use mathlib.Core.List.{List, [], _∷_}
+use native.Mathlib.Omega.{arith}
+use lib.Dec.{leb}
+use lib.IntN.{ℤ, pos, _+ℤ_}
+use lib.ListN.{length, getD, take}
+use lib.Signed.{_≤ℤ_, _<ℤ_}
+use Rattle.std.specs.declared.option.Option.the-variants.{Some, None}
+use Rattle.std.proofs.shelf.Lists.{getD-take, length-take, length-take-le}
+use Rattle.std.proofs.shelf.Signed.{ints}
+use Rattle.std.proofs.shelf.Tests.{le-leb, cond-true}
+use Rattle.ladders.specs.Faults.{size-fault}
+use Rattle.ladders.specs.declared.faults.LadderFault.the-variants.{TooManyLadders}
+use Rattle.ladders.specs.Rounding.{Above, Below, Near}
+use Rattle.ladders.specs.Sets.{lawful-at}
+
+module _ {L : Type 0} (holds : L → ℤ → Bool) where
+  at-place : (ls : List L) (n : ℕ) (d : L) → n < length ls → lawful-at holds ls n ≡ holds (getD ls n d)
+  at-place [] n d h = absurd (omega arith)
+  at-place (l ∷ ls) zero d h = refl
+  at-place (l ∷ ls) (suc n) d h = at-place ls n d (omega arith)
+
+  -- a ladder that the set has
+  pub in-set : (ls : List L) (k n : ℕ) (d : L) → n < k → k ≤ length ls → holds (getD ls n d) ≡ lawful-at holds (take k ls) n
+  in-set ls k n d h few =
+      let long = length-take-le k ls few in
+      sym (at-place (take k ls) n d (omega arith) ∙ ap holds (getD-take k ls n d h))
+
+  -- a ladder that it lacks
+  past-set : (ls : List L) (n : ℕ) → length ls ≤ n → (v : ℤ) → lawful-at holds ls n v ≡ true
+  past-set [] n h v = refl
+  past-set (l ∷ ls) zero h v = absurd (omega arith)
+  past-set (l ∷ ls) (suc n) h v = past-set ls n (omega arith) v
+
+  pub lacks : (ls : List L) (k n : ℕ) → k ≤ n → (v : ℤ) → lawful-at holds (take k ls) n v ≡ true
+  lacks ls k n h v = let few = length-take k ls in past-set (take k ls) n (omega arith) v
+
+  pub set-is-near : ((l : L) (z : ℤ) → Near (holds l) z) → (ls : List L) (n : ℕ) (z : ℤ) → Near (lawful-at holds ls n) z
+  set-is-near near [] n z = record { price = z; on = refl; from = omega (arith, ints); to = omega (arith, ints) }
+  set-is-near near (l ∷ ls) zero z = near l z
+  set-is-near near (l ∷ ls) (suc n) z = set-is-near near ls n z
+
+-- where every whole number is lawful, a number is its own rounding
+pub above-itself : (P : ℤ → Bool) → ((v : ℤ) → P v ≡ true) → (v r : ℤ) → r ≡ v → Above P v r
+above-itself P all v r e = record { on = all r; reaches = omega (arith, ints); least = λ q _ l. omega (arith, ints) }
+
+pub below-itself : (P : ℤ → Bool) → ((v : ℤ) → P v ≡ true) → (v r : ℤ) → r ≡ v → Below P v r
+below-itself P all v r e = record { on = all r; reaches = omega (arith, ints); greatest = λ q _ l. omega (arith, ints) }
+
+pub lawful-size : (n : ℕ) → 0 < n → n ≤ 16 → size-fault n ≡ None
+lawful-size zero h few = absurd (omega arith)
+lawful-size (suc n) h few = cond-true (leb (suc n) 16) None (Some TooManyLadders) (le-leb (suc n) 16 few)

@@ -1,0 +1,7 @@
+pub mod Checked
+pub mod InBand
+pub mod InSet
+pub mod Nearest
+pub mod Orders
+pub mod Products
+pub mod ToTick

@@ -1,0 +1,10 @@
+pub mod Prices
+pub mod Multiples
+pub mod Faults
+pub mod Bands
+pub mod Makes
+pub mod Sets
+pub mod Fractions
+pub mod Rounding
+pub mod Values
+pub mod Rounded

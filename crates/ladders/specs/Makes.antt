@@ -1,0 +1,14 @@
+-- The lawful prices of the two makes of ladder.
+use mathlib.Core.Bool.{Bool}
+use lib.IntN.{ℤ}
+use lib.ListN.{take}
+use Rattle.ladders.specs.Bands.{stepped}
+use Rattle.ladders.specs.Multiples.{multiple}
+use Rattle.ladders.specs.declared.stepping.SteppedLadder.{SteppedLadder}
+use Rattle.ladders.specs.declared.ticks.Tick.{Tick}
+
+abbrev pub even : Tick → ℤ → Bool
+even t = multiple (t .points)
+
+abbrev pub rungs : SteppedLadder → ℤ → Bool
+rungs l = stepped (l .first) (take (l .count) (l .later))

@@ -1,0 +1,136 @@
+// A set of 1 to 16 ladders, numbered from 0.
+ghost use Prim.Native.Nat.{ℕ, _≤_};
+ghost use mathlib.Core.Bool.{Bool, true, false};
+ghost use mathlib.Core.Path.{_≡_};
+ghost use lib.IntN.{ℤ};
+ghost use lib.ListN.{length, take};
+ghost use Rattle.std.specs.Options.{Cases};
+ghost use Rattle.std.specs.Results.{Cases as ByOk};
+ghost use Rattle.std.specs.declared.option.Option.the-variants.{Some, None};
+ghost use Rattle.ladders.specs.Faults.{size-fault};
+ghost use Rattle.ladders.specs.Prices.{within};
+ghost use Rattle.ladders.specs.Rounding.{Above, Below, Near};
+ghost use Rattle.ladders.specs.Makes.{even, rungs};
+ghost use Rattle.ladders.specs.Sets.{lawful-at};
+use crate::faults::LadderFault;
+use crate::limits::is_within;
+use crate::rungs::Ladder;
+use crate::stepping::SteppedLadder;
+use crate::stepping::SteppedRungs;
+use crate::ticks::Tick;
+use crate::ticks::TickLadder;
+
+pub trait LadderSet {
+    // The set's meaning: how many ladders it has, and for each ladder number the lawful prices.
+    ghost size: { Self → ℕ };
+
+    ghost lawful: { Self → ℕ → ℤ → Bool };
+
+    law counted: { (s : Self) → (1 ≤ size s) × (size s ≤ 16) };
+
+    // On a ladder number that the set lacks, every whole number is lawful.
+    law lacking: { (s : Self) (n : ℕ) (v : ℤ) → size s ≤ n → lawful s n v ≡ true };
+
+    law dense: { (s : Self) (n : ℕ) (z : ℤ) → Near (lawful s n) z };
+
+    fn count(&self) -> u8
+        ensures { λ r. ⌜ r ≡ size (now (self .entry)) ⌝ };
+
+    // The least lawful price not under v, for v within the price limit. It may pass the limit.
+    fn above(&self, ladder: u8, v: i64) -> Option<i64>
+        ensures { λ r. ⌜ Cases r (within v ≡ false) (λ p. (within v ≡ true) × Above (lawful (now (self .entry)) ladder) v p) ⌝ };
+
+    // The greatest lawful price not over v, for v within the price limit. It may pass the limit.
+    fn below(&self, ladder: u8, v: i64) -> Option<i64>
+        ensures { λ r. ⌜ Cases r (within v ≡ false) (λ p. (within v ≡ true) × Below (lawful (now (self .entry)) ladder) v p) ⌝ };
+}
+
+// A set of ladders of one make. The places from `count` on are not used.
+#[derive(Drop)]
+pub struct SetOf<L> {
+    ladders: [L; 16],
+    count: u8,
+    ghost counted: { (1 ≤ count) × (count ≤ 16) },
+}
+
+pub type EvenSet = SetOf<Tick>;
+
+pub type SteppedSet = SetOf<SteppedLadder>;
+
+impl<L: Ladder> SetOf<L> {
+    pub fn new(ladders: &[L]) -> Result<SetOf<L>, LadderFault>
+        ensures { λ r. ⌜ ByOk r (λ s. (size-fault (length (now (ladders .entry))) ≡ None) × (take (s .count) (s .ladders) ≡ now (ladders .entry))) (λ f. size-fault (length (now (ladders .entry))) ≡ Some f) ⌝ }
+    {
+        let count = ladders.len();
+        if count == 0 {
+            return Err(LadderFault::NoLadder);
+        }
+        if count > 16 {
+            return Err(LadderFault::TooManyLadders);
+        }
+        let mut all = [ladders[0]; 16];
+        for (i, l) in ladders.iter().enumerate() {
+            all[i] = *l;
+        }
+        Ok(SetOf {
+            ladders: all,
+            count: count as u8,
+        })
+    }
+
+    // The least lawful price of a ladder not under v, for v within the price limit.
+    fn up(&self, ladder: u8, v: i64) -> Option<i64>
+        ensures { λ r. ⌜ Cases r (within v ≡ false) (λ p. (within v ≡ true) × Above (lawful-at (L·Ladder .holds) (take (now (self .entry) .count) (now (self .entry) .ladders)) ladder) v p) ⌝ }
+    {
+        if ladder < self.count {
+            return self.ladders[ladder as usize].above(v);
+        }
+        if is_within(v) { Some(v) } else { None }
+    }
+
+    // The greatest lawful price of a ladder not over v, for v within the price limit.
+    fn down(&self, ladder: u8, v: i64) -> Option<i64>
+        ensures { λ r. ⌜ Cases r (within v ≡ false) (λ p. (within v ≡ true) × Below (lawful-at (L·Ladder .holds) (take (now (self .entry) .count) (now (self .entry) .ladders)) ladder) v p) ⌝ }
+    {
+        if ladder < self.count {
+            return self.ladders[ladder as usize].below(v);
+        }
+        if is_within(v) { Some(v) } else { None }
+    }
+}
+
+pub impl LadderSet for SetOf<Tick> as EvenSetLadders {
+    ghost size = { λ s. s .count };
+
+    ghost lawful = { λ s. lawful-at even (take (s .count) (s .ladders)) };
+
+    fn count(&self) -> u8 {
+        self.count
+    }
+
+    fn above(&self, ladder: u8, v: i64) -> Option<i64> {
+        self.up(ladder, v)
+    }
+
+    fn below(&self, ladder: u8, v: i64) -> Option<i64> {
+        self.down(ladder, v)
+    }
+}
+
+pub impl LadderSet for SetOf<SteppedLadder> as SteppedSetLadders {
+    ghost size = { λ s. s .count };
+
+    ghost lawful = { λ s. lawful-at rungs (take (s .count) (s .ladders)) };
+
+    fn count(&self) -> u8 {
+        self.count
+    }
+
+    fn above(&self, ladder: u8, v: i64) -> Option<i64> {
+        self.up(ladder, v)
+    }
+
+    fn below(&self, ladder: u8, v: i64) -> Option<i64> {
+        self.down(ladder, v)
+    }
+}
