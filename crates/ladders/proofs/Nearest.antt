@@ -7,8 +7,11 @@ use lib.Dec.{ltb}
 use lib.IntN.{ℤ, pos, negsuc, negℤ, natAbs, _+ℤ_, _-ℤ_, _*ℤ_}
 use lib.Signed.{_≤ℤ_, _<ℤ_, leZ}
 use Rattle.std.proofs.shelf.Signed.{ints, by-ltZ}
-use Rattle.std.proofs.shelf.Tests.{cond-both, cond-true, and-parts, ltb-true, false≢true}
+use Rattle.std.proofs.shelf.Tests.{cond-both, cond-true, and-parts, ltb-true, true≢false, false≢true}
+use Rattle.ladders.specs.Laws.{Same, NotOver, NoLower, Neighbours}
 use Rattle.ladders.specs.Prices.{within}
+use Rattle.std.specs.Options.{Cases}
+use Rattle.std.specs.declared.option.Option.{Option}
 use Rattle.std.specs.declared.option.Option.the-variants.{Some, None}
 use Rattle.ladders.specs.Rounded.{Rounds, rounded}
 use Rattle.ladders.specs.declared.rounding.Rounded.{Rounded}
@@ -17,7 +20,7 @@ use Rattle.ladders.specs.Fractions.{inside, floor, ceiling}
 use Rattle.ladders.specs.Values.{seek-up, seek-down, above-of, below-of, closer-of, nearest-of}
 use Rattle.ladders.proofs.Products.{times-rises, times-next, times-apart, times-neg, times-sum, times-swap}
 use Rattle.ladders.proofs.ToTick.{split, rest-range}
-use Rattle.ladders.proofs.Orders.{above-once, below-once, antisym, le-from-test, within-test}
+use Rattle.ladders.proofs.Orders.{above-rises, below-rises, above-once, below-once, antisym, le-from-test, within-test}
 
 -- where one of the k numbers from v on is lawful, the search finds the first
 seek-up-finds : (P : ℤ → Bool) (k : ℕ) (v p : ℤ) → P p ≡ true → v ≤ℤ p → p <ℤ (v +ℤ pos k) → Above P v (seek-up P k v)
@@ -248,3 +251,63 @@ rounds-value P near n d r e h =
       above = above-value P near (ceiling n d) (r .above) (h .up) i;
     })
     ∙ sym (cond-true (inside n d) _ None e)
+
+-- ---- rounding rises with the fraction
+
+floor-rises : (n m : ℤ) (d e : ℕ) → 0 < d → 0 < e → NotOver n d m e → floor n d ≤ℤ floor m e
+floor-rises n m d e some-d some-e h =
+    by-ltZ (floor m e) (floor n d)
+    (λ l.
+      let q = floor n d in
+      let under = times-rises (q *ℤ pos d) n e (floor-under n d some-d) in
+      let over = times-apart m (q *ℤ pos e) d (over-floor m e q some-e l) in
+      let swap = times-swap q d e in
+      absurd (omega (arith, ints)))
+    (λ l. l)
+
+ceiling-rises : (n m : ℤ) (d e : ℕ) → 0 < d → 0 < e → NotOver n d m e → ceiling n d ≤ℤ ceiling m e
+ceiling-rises n m d e some-d some-e h =
+    let left = times-neg n e in
+    let right = times-neg m d in
+    let mirror = floor-rises (negℤ m) (negℤ n) e d some-e some-d (omega (arith, ints)) in
+    omega (arith, ints)
+
+-- what a set answers about a fraction
+abbrev pub Answer : (ℤ → Bool) → ℤ → ℕ → Option Rounded → Type 0
+Answer P n d r = Cases r (inside n d ≡ false) (λ p. (inside n d ≡ true) × Rounds P n d p)
+
+pub rounding-rises : (P Q : ℤ → Bool) → Same P Q → (n m : ℤ) (d e : ℕ) (r s : Option Rounded) → Answer P n d r → Answer Q m e s → NotOver n d m e → NoLower r s
+rounding-rises P Q same n m d e None s a b h = tt
+rounding-rises P Q same n m d e (Some r) None a b h = tt
+rounding-rises P Q same n m d e (Some r) (Some s) a b h =
+    let some-d = inside-range n d (a .0) .0 in
+    let some-e = inside-range m e (b .0) .0 in
+    (below-rises P Q same (floor n d) (floor m e) (r .below) (s .below) (a .1 .down) (b .1 .down) (floor-rises n m d e some-d some-e h),
+     (nearest-rises P Q same n m d e (r .nearest) (s .nearest) some-d some-e (a .1 .closest) (b .1 .closest) h,
+      above-rises P Q same (ceiling n d) (ceiling m e) (r .above) (s .above) (a .1 .up) (b .1 .up) (ceiling-rises n m d e some-d some-e h)))
+
+-- the same fraction has the same answer
+pub rounding-alike : (P Q : ℤ → Bool) → Same P Q → (n : ℤ) (d : ℕ) (r s : Option Rounded) → Answer P n d r → Answer Q n d s → r ≡ s
+rounding-alike P Q same n d None None a b = refl
+rounding-alike P Q same n d None (Some s) a b = absurd (true≢false (sym (b .0) ∙ a))
+rounding-alike P Q same n d (Some r) None a b = absurd (true≢false (sym (a .0) ∙ b))
+rounding-alike P Q same n d (Some r) (Some s) a b =
+    let level : NotOver n d n d = omega (arith, ints) in
+    let up = rounding-rises P Q same n n d d (Some r) (Some s) a b level in
+    let back = rounding-rises Q P (λ v. sym (same v)) n n d d (Some s) (Some r) b a level in
+    ap Some (λ i. record {
+      below = antisym (r .below) (s .below) (up .0) (back .0) i;
+      nearest = antisym (r .nearest) (s .nearest) (up .1 .0) (back .1 .0) i;
+      above = antisym (r .above) (s .above) (up .1 .1) (back .1 .1) i;
+    })
+
+-- ---- neighbours
+
+pub neighbours-close : (P : ℤ → Bool) → ((z : ℤ) → Near P z) → Neighbours P
+neighbours-close P near p q on-p on-q none =
+    let next = near (p +ℤ pos 1) in
+    let from = next .from in
+    let to = next .to in
+    by-ltZ (next .price) q
+    (λ l. absurd (true≢false (sym (next .on) ∙ none (next .price) (omega (arith, ints)) l)))
+    (λ l. omega (arith, ints))

@@ -8,3 +8,5 @@ pub mod Fractions
 pub mod Rounding
 pub mod Values
 pub mod Rounded
+pub mod Laws
+pub mod Worked

@@ -7,3 +7,5 @@ pub mod rungs;
 pub mod sets;
 pub mod stepping;
 pub mod ticks;
+pub mod laws;
+pub mod worked;
