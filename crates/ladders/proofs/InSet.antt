@@ -1,21 +1,23 @@
 -- What is lawful on a ladder of a set.
-use Prim.Native.Nat.{ℕ, zero, suc, _<_, _≤_}
+use Prim.Native.Nat.{ℕ, zero, suc, _+_, _<_, _≤_}
 use mathlib.Core.Path.{_≡_, refl, sym, ap, _∙_, subst}
 use mathlib.Core.Bool.{Bool, true, false}
-use mathlib.Core.List.{List, [], _∷_}
+use mathlib.Core.List.{List, [], _∷_, _++_}
 use native.Mathlib.Omega.{arith}
 use lib.Dec.{leb}
 use lib.IntN.{ℤ, pos, _+ℤ_}
-use lib.ListN.{length, getD, take}
+use lib.ListN.{length, getD, set, take, drop}
 use lib.Signed.{_≤ℤ_, _<ℤ_}
+use Rattle.std.specs.declared.option.Option.{Option}
 use Rattle.std.specs.declared.option.Option.the-variants.{Some, None}
-use Rattle.std.proofs.shelf.Lists.{getD-take, length-take, length-take-le}
+use Rattle.std.proofs.shelf.Lists.{at-drop-more, getD-take, length-take, length-take-le, take-more, take-more-set}
 use Rattle.std.proofs.shelf.Signed.{ints}
 use Rattle.std.proofs.shelf.Tests.{le-leb, cond-true}
-use Rattle.ladders.specs.Faults.{size-fault}
+use Rattle.ladders.specs.Faults.{or-else, size-fault}
+use Rattle.ladders.specs.declared.faults.LadderFault.{LadderFault}
 use Rattle.ladders.specs.declared.faults.LadderFault.the-variants.{TooManyLadders}
 use Rattle.ladders.specs.Rounding.{Above, Below, Near}
-use Rattle.ladders.specs.Sets.{lawful-at}
+use Rattle.ladders.specs.Sets.{lawful-at, each-fault, set-fault, Told}
 
 module _ {L : Type 0} (holds : L → ℤ → Bool) where
   at-place : (ls : List L) (n : ℕ) (d : L) → n < length ls → lawful-at holds ls n ≡ holds (getD ls n d)
@@ -50,6 +52,34 @@ above-itself P all v r e = record { on = all r; reaches = omega (arith, ints); l
 pub below-itself : (P : ℤ → Bool) → ((v : ℤ) → P v ≡ true) → (v r : ℤ) → r ≡ v → Below P v r
 below-itself P all v r e = record { on = all r; reaches = omega (arith, ints); greatest = λ q _ l. omega (arith, ints) }
 
-pub lawful-size : (n : ℕ) → 0 < n → n ≤ 16 → size-fault n ≡ None
-lawful-size zero h few = absurd (omega arith)
-lawful-size (suc n) h few = cond-true (leb (suc n) 16) None (Some TooManyLadders) (le-leb (suc n) 16 few)
+-- ---- one ladder more of a set that is described: d stands at place i
+
+module _ {D L : Type 0} (fault : D → Option LadderFault) (tells : D → L → Type 0) where
+  at-drop : (ds : List D) (i : ℕ) (d : D) → i < length ds → d ≡ getD ds i d → each-fault fault (drop i ds) ≡ or-else (fault d) (each-fault fault (drop (i + 1) ds))
+  at-drop ds i d h read = at-drop-more (each-fault fault) ds i d h ∙ ap (λ x. or-else (fault x) (each-fault fault (drop (i + 1) ds))) (sym read)
+
+  pub faulty-at : (ds : List D) (i : ℕ) (d : D) (f : LadderFault) → i < length ds → d ≡ getD ds i d → each-fault fault ds ≡ each-fault fault (drop i ds) → fault d ≡ Some f → each-fault fault ds ≡ Some f
+  faulty-at ds i d f h read inv e = inv ∙ at-drop ds i d h read ∙ ap (λ o. or-else o (each-fault fault (drop (i + 1) ds))) e
+
+  pub sound-at : (ds : List D) (i : ℕ) (d : D) → i < length ds → d ≡ getD ds i d → each-fault fault ds ≡ each-fault fault (drop i ds) → fault d ≡ None → each-fault fault ds ≡ each-fault fault (drop (i + 1) ds)
+  sound-at ds i d h read inv e = inv ∙ at-drop ds i d h read ∙ ap (λ o. or-else o (each-fault fault (drop (i + 1) ds))) e
+
+  told-push : (ds : List D) (ls : List L) (d : D) (l : L) → Told tells ds ls → tells d l → Told tells (ds ++ (d ∷ [])) (ls ++ (l ∷ []))
+  told-push [] [] d l t e = (e, tt)
+  told-push [] (m ∷ ms) d l t e = absurd t
+  told-push (c ∷ cs) [] d l t e = absurd t
+  told-push (c ∷ cs) (m ∷ ms) d l t e = (t .0, told-push cs ms d l (t .1) e)
+
+  pub told-more : (ds : List D) (ls : List L) (i : ℕ) (d : D) (l : L) → i < length ds → i < length ls → d ≡ getD ds i d → Told tells (take i ds) (take i ls) → tells d l → Told tells (take (i + 1) ds) (take (i + 1) (set ls i l))
+  told-more ds ls i d l h k read inv e =
+      let more = take-more ds i d h ∙ ap (λ x. take i ds ++ (x ∷ [])) (sym read) in
+      subst (λ (xs : List D). Told tells xs (take (i + 1) (set ls i l))) (sym more)
+      (subst (Told tells (take i ds ++ (d ∷ []))) (sym (take-more-set ls i l k)) (told-push (take i ds) (take i ls) d l inv e))
+
+  -- with 1 to 16 ladders, the fault of a set is one of its ladders'
+  pub sized : (ds : List D) → 0 < length ds → length ds ≤ 16 → set-fault fault ds ≡ each-fault fault ds
+  sized ds some few = ap (λ o. or-else o (each-fault fault ds)) (lawful-size (length ds) some few)
+    where
+      lawful-size : (n : ℕ) → 0 < n → n ≤ 16 → size-fault n ≡ None
+      lawful-size zero h k = absurd (omega arith)
+      lawful-size (suc n) h k = cond-true (leb (suc n) 16) None (Some TooManyLadders) (le-leb (suc n) 16 k)

@@ -9,3 +9,4 @@ pub mod stepping;
 pub mod ticks;
 pub mod laws;
 pub mod worked;
+pub mod describing;

@@ -3,15 +3,15 @@ ghost use Prim.Native.Nat.{ℕ, _≤_};
 ghost use mathlib.Core.Bool.{Bool, true, false};
 ghost use mathlib.Core.Path.{_≡_};
 ghost use lib.IntN.{ℤ};
-ghost use lib.ListN.{length, take};
+ghost use lib.ListN.{take};
 ghost use Rattle.std.specs.Options.{Cases};
 ghost use Rattle.std.specs.Results.{Cases as ByOk};
 ghost use Rattle.std.specs.declared.option.Option.the-variants.{Some, None};
-ghost use Rattle.ladders.specs.Faults.{size-fault};
 ghost use Rattle.ladders.specs.Prices.{within};
 ghost use Rattle.ladders.specs.Rounding.{Above, Below, Near};
 ghost use Rattle.ladders.specs.Makes.{even, rungs};
-ghost use Rattle.ladders.specs.Sets.{lawful-at};
+ghost use Rattle.ladders.specs.Sets.{lawful-at, set-fault, Told};
+use crate::describing::Describes;
 use crate::faults::LadderFault;
 use crate::limits::is_within;
 use crate::rungs::Ladder;
@@ -58,22 +58,23 @@ pub type EvenSet = SetOf<Tick>;
 pub type SteppedSet = SetOf<SteppedLadder>;
 
 impl<L: Ladder> SetOf<L> {
-    pub fn new(ladders: &[L]) -> Result<SetOf<L>, LadderFault>
-        ensures { λ r. ⌜ ByOk r (λ s. (size-fault (length (now (ladders .entry))) ≡ None) × (take (s .count) (s .ladders) ≡ now (ladders .entry))) (λ f. size-fault (length (now (ladders .entry))) ≡ Some f) ⌝ }
+    // The set of the ladders that are described, numbered in their order.
+    pub fn new<D: Describes<L>>(described: &[D]) -> Result<SetOf<L>, LadderFault>
+        ensures { λ r. ⌜ ByOk r (λ s. (set-fault (D·Describes .fault) (now (described .entry)) ≡ None) × Told (D·Describes .tells) (now (described .entry)) (take (s .count) (s .ladders))) (λ f. set-fault (D·Describes .fault) (now (described .entry)) ≡ Some f) ⌝ }
     {
-        let count = ladders.len();
+        let count = described.len();
         if count == 0 {
             return Err(LadderFault::NoLadder);
         }
         if count > 16 {
             return Err(LadderFault::TooManyLadders);
         }
-        let mut all = [ladders[0]; 16];
-        for (i, l) in ladders.iter().enumerate() {
-            all[i] = *l;
+        let mut ladders = [described[0].checked()?; 16];
+        for i in 1..count {
+            ladders[i] = described[i].checked()?;
         }
         Ok(SetOf {
-            ladders: all,
+            ladders,
             count: count as u8,
         })
     }

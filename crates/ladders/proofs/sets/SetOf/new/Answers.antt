@@ -1,31 +1,49 @@
-use Prim.Native.Nat.{_<_, _≤_}
-use mathlib.Core.Path.{_≡_, sym, ap, _∙_}
+use Prim.Native.Nat.{_<_}
+use mathlib.Core.Path.{_≡_, refl, sym, ap, _∙_, subst}
+use mathlib.Core.List.{List}
 use native.Mathlib.Omega.{arith}
-use borrow.Author.Needs.{needs}
 use lib.ListN.{length, take}
-use mathlib.Core.List.{_++_, _∷_, []}
-use Rattle.std.proofs.shelf.Lists.{length-set, take-all, take-more, take-more-set}
-use Rattle.ladders.proofs.InSet.{lawful-size}
+use Rattle.std.proofs.shelf.Lists.{length-set, take-all, at-drop-all}
+use Rattle.std.proofs.shelf.Results.{err-from-errBy}
+use Rattle.ladders.specs.Sets.{each-fault, Told}
+use Rattle.ladders.proofs.InSet.{faulty-at, sound-at, told-more, sized}
 use Rattle.ladders.proofs.sets.SetOf.new.Needs as need
+
+pub returns-in-Break-ladders : need.returns-in-Break-ladders
+returns-in-Break-ladders g c =
+    let D = g .D·Describes in
+    let ds = c .args .described .now in
+    let some : 0 < length ds = omega arith in
+    let p = err-from-errBy (c .from-residual .result) (c .from-residual .ensures .1) in
+    rw (p .1, p .2) (sized (D .fault) (D .tells) ds some (c .if-count-gt16 .left) ∙ faulty-at (D .fault) (D .tells) ds 0 (c .index-described-0 .result) _ some (c .index-described-0 .is) refl (c .in-Break-ladders .ensures tt))
+
+pub returns-in-Break-ladders-2 : need.returns-in-Break-ladders-2
+returns-in-Break-ladders-2 g c =
+    let D = g .D·Describes in
+    let ds = c .args .described .now in
+    let some : 0 < length ds = omega arith in
+    let p = err-from-errBy (c .from-residual-in-Break-ladders-2 .result) (c .from-residual-in-Break-ladders-2 .ensures .1) in
+    rw (p .1, p .2) (sized (D .fault) (D .tells) ds some (c .if-count-gt16 .left) ∙ faulty-at (D .fault) (D .tells) ds (c .loop-i .i) (c .index-described-i .result) _ (c .loop-i-test .taken) (c .index-described-i .is) (c .loop-i .inv .2) (c .in-Break-ladders-2 .ensures tt))
 
 pub loop-i-again : need.loop-i-again
 loop-i-again g c =
-    let all = c .loop-i .all in
+    let D = g .D·Describes in
+    let ds = c .args .described .now in
+    let ls = c .loop-i .ladders in
     let i = c .loop-i .i in
-    let ladders = c .args .ladders .now in
-    let l = c .index-ladders-i .result in
-    let within : i < length all = omega arith in (
-      length-set all i l ∙ c .loop-i .inv .0,
-      take-more-set all i l within
-          ∙ ap (λ xs. xs ++ (l ∷ [])) (c .loop-i .inv .1)
-          ∙ ap (λ x. take i ladders ++ (x ∷ [])) (c .index-ladders-i .is)
-          ∙ sym (take-more ladders i l (c .loop-i-test .taken)),
-    )
+    let sound = c .in-Continue-ladders-2 .ensures tt in
+    let within : i < length ls = omega arith in
+    (length-set ls i _ ∙ c .loop-i .inv .0,
+     told-more (D .fault) (D .tells) ds ls i (c .index-described-i .result) _ (c .loop-i-test .taken) within (c .index-described-i .is) (c .loop-i .inv .1) (sound .1),
+     sound-at (D .fault) (D .tells) ds i (c .index-described-i .result) (c .loop-i-test .taken) (c .index-described-i .is) (c .loop-i .inv .2) (sound .0))
 
 pub returns : need.returns
 returns g c =
-    let ladders = c .args .ladders .now in
-    let all : c .loop-i .i ≡ length ladders = omega arith in (
-      lawful-size (length ladders) (omega arith) (c .if-count-gt16 .left),
-      ap (λ n. take n (c .loop-i .all)) (sym all) ∙ c .loop-i .inv .1 ∙ take-all (c .loop-i .i) ladders (c .loop-i-test .left),
-    )
+    let D = g .D·Describes in
+    let ds = c .args .described .now in
+    let i = c .loop-i .i in
+    let some : 0 < length ds = omega arith in
+    let all : i ≡ length ds = omega arith in
+    let told = subst (λ (xs : List (g .D .Denot)). Told (D .tells) xs (take i (c .loop-i .ladders))) (take-all i ds (c .loop-i-test .left)) (c .loop-i .inv .1) in
+    (sized (D .fault) (D .tells) ds some (c .if-count-gt16 .left) ∙ c .loop-i .inv .2 ∙ at-drop-all (each-fault (D .fault)) ds i (c .loop-i-test .left),
+     simp all at told)
