@@ -4,7 +4,6 @@ use mathlib.Core.Path.{_≡_, refl, sym, ap, _∙_, subst}
 use mathlib.Core.Bool.{Bool, true, false}
 use mathlib.Core.List.{List, [], _∷_, _++_}
 use native.Mathlib.Omega.{arith}
-use lib.Dec.{leb}
 use lib.IntN.{ℤ, pos, _+ℤ_}
 use lib.ListN.{length, getD, set, take, drop}
 use lib.Signed.{_≤ℤ_, _<ℤ_}
@@ -12,10 +11,8 @@ use Rattle.std.specs.declared.option.Option.{Option}
 use Rattle.std.specs.declared.option.Option.the-variants.{Some, None}
 use Rattle.std.proofs.shelf.Lists.{at-drop-more, getD-take, length-take, length-take-le, take-more, take-more-set}
 use Rattle.std.proofs.shelf.Signed.{ints}
-use Rattle.std.proofs.shelf.Tests.{le-leb, cond-true}
 use Rattle.ladders.specs.Faults.{or-else, size-fault}
 use Rattle.ladders.specs.declared.faults.LadderFault.{LadderFault}
-use Rattle.ladders.specs.declared.faults.LadderFault.the-variants.{TooManyLadders}
 use Rattle.ladders.specs.Rounding.{Above, Below, Near}
 use Rattle.ladders.specs.Sets.{lawful-at, each-fault, set-fault, Told}
 
@@ -76,10 +73,6 @@ module _ {D L : Type 0} (fault : D → Option LadderFault) (tells : D → L → 
       subst (λ (xs : List D). Told tells xs (take (i + 1) (set ls i l))) (sym more)
       (subst (Told tells (take i ds ++ (d ∷ []))) (sym (take-more-set ls i l k)) (told-push (take i ds) (take i ls) d l inv e))
 
-  -- with 1 to 16 ladders, the fault of a set is one of its ladders'
-  pub sized : (ds : List D) → 0 < length ds → length ds ≤ 16 → set-fault fault ds ≡ each-fault fault ds
-  sized ds some few = ap (λ o. or-else o (each-fault fault ds)) (lawful-size (length ds) some few)
-    where
-      lawful-size : (n : ℕ) → 0 < n → n ≤ 16 → size-fault n ≡ None
-      lawful-size zero h k = absurd (omega arith)
-      lawful-size (suc n) h k = cond-true (leb (suc n) 16) None (Some TooManyLadders) (le-leb (suc n) 16 k)
+  -- with a lawful number of ladders, the fault of a set is one of its ladders'
+  pub sized : (ds : List D) → size-fault (length ds) ≡ None → set-fault fault ds ≡ each-fault fault ds
+  sized ds e = ap (λ o. or-else o (each-fault fault ds)) e

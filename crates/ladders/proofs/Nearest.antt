@@ -8,7 +8,7 @@ use lib.IntN.{ℤ, pos, negsuc, negℤ, natAbs, _+ℤ_, _-ℤ_, _*ℤ_}
 use lib.Signed.{_≤ℤ_, _<ℤ_, leZ}
 use Rattle.std.proofs.shelf.Signed.{ints, by-ltZ}
 use Rattle.std.proofs.shelf.Tests.{cond-both, cond-true, and-parts, ltb-true, true≢false, false≢true}
-use Rattle.ladders.specs.Laws.{Same, NotOver, NoLower, Neighbours}
+use Rattle.ladders.specs.Laws.{Same, NotOver, NoLower}
 use Rattle.ladders.specs.Prices.{within}
 use Rattle.std.specs.Options.{Cases}
 use Rattle.std.specs.declared.option.Option.{Option}
@@ -233,6 +233,10 @@ nearest-value P near n d p h a =
     nearest-once P n d p _ a
     (closer-is-nearest P n d (below-of P (floor n d)) (above-of P (ceiling n d)) h (below-of-is P near (floor n d)) (above-of-is P near (ceiling n d)))
 
+nearest-is : (P : ℤ → Bool) (n : ℤ) (d : ℕ) → nearest-of P n d ≡ closer-of n d (below-of P (floor n d)) (above-of P (ceiling n d))
+unfolding nearest-of
+nearest-is P n d = refl
+
 -- ---- a fraction rounded three ways
 
 pub rounds-from : (P : ℤ → Bool) (n : ℤ) (d : ℕ) (low high : ℤ) (r : Rounded) → inside n d ≡ true → Below P (floor n d) low → Above P (ceiling n d) high → r .below ≡ low → r .nearest ≡ closer-of n d low high → r .above ≡ high → Rounds P n d r
@@ -258,11 +262,11 @@ floor-rises : (n m : ℤ) (d e : ℕ) → 0 < d → 0 < e → NotOver n d m e �
 floor-rises n m d e some-d some-e h =
     by-ltZ (floor m e) (floor n d)
     (λ l.
-      let q = floor n d in
-      let under = times-rises (q *ℤ pos d) n e (floor-under n d some-d) in
-      let over = times-apart m (q *ℤ pos e) d (over-floor m e q some-e l) in
-      let swap = times-swap q d e in
-      absurd (omega (arith, ints)))
+    let q = floor n d in
+    let under = times-rises (q *ℤ pos d) n e (floor-under n d some-d) in
+    let over = times-apart m (q *ℤ pos e) d (over-floor m e q some-e l) in
+    let swap = times-swap q d e in
+    absurd (omega (arith, ints)))
     (λ l. l)
 
 ceiling-rises : (n m : ℤ) (d e : ℕ) → 0 < d → 0 < e → NotOver n d m e → ceiling n d ≤ℤ ceiling m e
@@ -276,15 +280,28 @@ ceiling-rises n m d e some-d some-e h =
 abbrev pub Answer : (ℤ → Bool) → ℤ → ℕ → Option Rounded → Type 0
 Answer P n d r = Cases r (inside n d ≡ false) (λ p. (inside n d ≡ true) × Rounds P n d p)
 
+pub rounded-answers : (P : ℤ → Bool) → ((z : ℤ) → Near P z) → (n : ℤ) (d : ℕ) (r : Option Rounded) → r ≡ rounded P n d → Answer P n d r
+rounded-answers P near n d r is =
+    subst (Answer P n d) (sym is)
+    (cond-both (inside n d) _ None (Answer P n d)
+    (λ e.
+    let low = below-of-is P near (floor n d) in
+    let high = above-of-is P near (ceiling n d) in
+    (e, rounds-from P n d (below-of P (floor n d)) (above-of P (ceiling n d)) _ e low high refl (nearest-is P n d) refl))
+    (λ e. e))
+
 pub rounding-rises : (P Q : ℤ → Bool) → Same P Q → (n m : ℤ) (d e : ℕ) (r s : Option Rounded) → Answer P n d r → Answer Q m e s → NotOver n d m e → NoLower r s
 rounding-rises P Q same n m d e None s a b h = tt
 rounding-rises P Q same n m d e (Some r) None a b h = tt
 rounding-rises P Q same n m d e (Some r) (Some s) a b h =
     let some-d = inside-range n d (a .0) .0 in
-    let some-e = inside-range m e (b .0) .0 in
-    (below-rises P Q same (floor n d) (floor m e) (r .below) (s .below) (a .1 .down) (b .1 .down) (floor-rises n m d e some-d some-e h),
-     (nearest-rises P Q same n m d e (r .nearest) (s .nearest) some-d some-e (a .1 .closest) (b .1 .closest) h,
-      above-rises P Q same (ceiling n d) (ceiling m e) (r .above) (s .above) (a .1 .up) (b .1 .up) (ceiling-rises n m d e some-d some-e h)))
+    let some-e = inside-range m e (b .0) .0 in (
+      below-rises P Q same (floor n d) (floor m e) (r .below) (s .below) (a .1 .down) (b .1 .down) (floor-rises n m d e some-d some-e h),
+      (
+        nearest-rises P Q same n m d e (r .nearest) (s .nearest) some-d some-e (a .1 .closest) (b .1 .closest) h,
+        above-rises P Q same (ceiling n d) (ceiling m e) (r .above) (s .above) (a .1 .up) (b .1 .up) (ceiling-rises n m d e some-d some-e h),
+      ),
+    )
 
 -- the same fraction has the same answer
 pub rounding-alike : (P Q : ℤ → Bool) → Same P Q → (n : ℤ) (d : ℕ) (r s : Option Rounded) → Answer P n d r → Answer Q n d s → r ≡ s
@@ -303,11 +320,12 @@ rounding-alike P Q same n d (Some r) (Some s) a b =
 
 -- ---- neighbours
 
-pub neighbours-close : (P : ℤ → Bool) → ((z : ℤ) → Near P z) → Neighbours P
-neighbours-close P near p q on-p on-q none =
-    let next = near (p +ℤ pos 1) in
+-- the lawful prices on either side of a fraction are at most 1,000,000 points apart
+pub rounds-close : (P : ℤ → Bool) → ((z : ℤ) → Near P z) → (n : ℤ) (d : ℕ) (r : Rounded) → inside n d ≡ true → Rounds P n d r → r .above ≤ℤ (r .below +ℤ pos 1000000)
+rounds-close P near n d r e h =
+    let next = near (r .below +ℤ pos 1) in
     let from = next .from in
     let to = next .to in
-    by-ltZ (next .price) q
-    (λ l. absurd (true≢false (sym (next .on) ∙ none (next .price) (omega (arith, ints)) l)))
-    (λ l. omega (arith, ints))
+    floor-or-ceiling n d (next .price) (inside-range n d e .0)
+    (λ l. let low = h .down .greatest (next .price) (next .on) l in absurd (omega (arith, ints)))
+    (λ l. let high = h .up .least (next .price) (next .on) l in omega (arith, ints))

@@ -93,14 +93,14 @@ pub up-is-near : (t : ℕ) (v : ℤ) → 0 < t → (v +ℤ remEuclid (negℤ v) 
 up-is-near t v h = let rest = rest-range (negℤ v) t h in omega (arith, ints)
 
 -- the same of numbers that are equal to those above, as a computation on bits leaves them
-pub rounded-down : (t : ℕ) (v w k rest r : ℤ) → 0 < t → w ≡ v → k ≡ pos t → rest ≡ remEuclid w k → r ≡ v -ℤ rest → Below (multiple t) v r
-rounded-down t v w k rest r h same tick is e =
-    let found : r ≡ v -ℤ remEuclid v (pos t) = e ∙ ap (λ x. v -ℤ x) (is ∙ ap (λ x. remEuclid x k) same ∙ ap (remEuclid v) tick) in
+pub rounded-down : (t : ℕ) (v w rest r : ℤ) → 0 < t → w ≡ v → rest ≡ remEuclid w (pos t) → r ≡ v -ℤ rest → Below (multiple t) v r
+rounded-down t v w rest r h same is e =
+    let found : r ≡ v -ℤ remEuclid v (pos t) = e ∙ ap (λ x. v -ℤ x) (is ∙ ap (λ x. remEuclid x (pos t)) same) in
     subst (Below (multiple t) v) (sym found) (down-is-below t v h)
 
-pub rounded-up : (t : ℕ) (v w k rest r : ℤ) → 0 < t → w ≡ negℤ v → k ≡ pos t → rest ≡ remEuclid w k → r ≡ v +ℤ rest → Above (multiple t) v r
-rounded-up t v w k rest r h same tick is e =
-    let found : r ≡ v +ℤ remEuclid (negℤ v) (pos t) = e ∙ ap (λ x. v +ℤ x) (is ∙ ap (λ x. remEuclid x k) same ∙ ap (remEuclid (negℤ v)) tick) in
+pub rounded-up : (t : ℕ) (v w rest r : ℤ) → 0 < t → w ≡ negℤ v → rest ≡ remEuclid w (pos t) → r ≡ v +ℤ rest → Above (multiple t) v r
+rounded-up t v w rest r h same is e =
+    let found : r ≡ v +ℤ remEuclid (negℤ v) (pos t) = e ∙ ap (λ x. v +ℤ x) (is ∙ ap (λ x. remEuclid x (pos t)) same) in
     subst (Above (multiple t) v) (sym found) (up-is-above t v h)
 
 pub tick-is-near : (t : ℕ) → 0 < t → t ≤ 1000000 → (z : ℤ) → Near (multiple t) z

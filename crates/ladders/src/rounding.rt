@@ -2,7 +2,8 @@
 ghost use Prim.Native.Nat.{_<_, _^_};
 ghost use mathlib.Core.Bool.{true, false, _&&_};
 ghost use mathlib.Core.Path.{_≡_};
-ghost use lib.IntN.{pos, natAbs, _-ℤ_, _*ℤ_};
+ghost use lib.IntN.{pos, natAbs, _+ℤ_, _-ℤ_, _*ℤ_};
+ghost use lib.Signed.{_≤ℤ_};
 ghost use Rattle.std.specs.Options.{Cases};
 ghost use Rattle.ladders.specs.Fractions.{inside, floor, ceiling};
 ghost use Rattle.ladders.specs.Prices.{within};
@@ -79,6 +80,7 @@ fn closer(fraction: (i64, u32), low: i64, high: i64) -> i64
 pub fn round<S: LadderSet>(set: &S, ladder: u8, fraction: (i64, u32)) -> Option<Rounded>
     ensures rule { λ r. ⌜ Cases r (inside (fraction .0) (fraction .1) ≡ false) (λ p. (inside (fraction .0) (fraction .1) ≡ true) × Rounds (lawful (now (set .entry)) ladder) (fraction .0) (fraction .1) p) ⌝ }
     ensures value { λ r. ⌜ r ≡ rounded (lawful (now (set .entry)) ladder) (fraction .0) (fraction .1) ⌝ }
+    ensures close { λ r. ⌜ Cases r (Unit {0}) (λ p. p .above ≤ℤ (p .below +ℤ pos 1000000)) ⌝ }
 {
     if !is_inside(fraction) {
         return None;

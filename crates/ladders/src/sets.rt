@@ -9,6 +9,7 @@ ghost use Rattle.std.specs.Results.{Cases as ByOk};
 ghost use Rattle.std.specs.declared.option.Option.the-variants.{Some, None};
 ghost use Rattle.ladders.specs.Prices.{within};
 ghost use Rattle.ladders.specs.Rounding.{Above, Below, Near};
+ghost use Rattle.ladders.specs.Faults.{size-fault};
 ghost use Rattle.ladders.specs.Makes.{even, rungs};
 ghost use Rattle.ladders.specs.Sets.{lawful-at, set-fault, Told};
 use crate::describing::Describes;
@@ -57,26 +58,28 @@ pub type EvenSet = SetOf<Tick>;
 
 pub type SteppedSet = SetOf<SteppedLadder>;
 
+// A number of ladders, 1 to 16.
+fn checked_count(count: usize) -> Result<u8, LadderFault>
+    ensures { λ r. ⌜ ByOk r (λ n. (size-fault count ≡ None) × ((n ≡ count) × ((1 ≤ count) × (count ≤ 16)))) (λ f. size-fault count ≡ Some f) ⌝ }
+{
+    match count {
+        0 => Err(LadderFault::NoLadder),
+        1..=16 => Ok(count as u8),
+        _ => Err(LadderFault::TooManyLadders),
+    }
+}
+
 impl<L: Ladder> SetOf<L> {
     // The set of the ladders that are described, numbered in their order.
     pub fn new<D: Describes<L>>(described: &[D]) -> Result<SetOf<L>, LadderFault>
         ensures { λ r. ⌜ ByOk r (λ s. (set-fault (D·Describes .fault) (now (described .entry)) ≡ None) × Told (D·Describes .tells) (now (described .entry)) (take (s .count) (s .ladders))) (λ f. set-fault (D·Describes .fault) (now (described .entry)) ≡ Some f) ⌝ }
     {
-        let count = described.len();
-        if count == 0 {
-            return Err(LadderFault::NoLadder);
-        }
-        if count > 16 {
-            return Err(LadderFault::TooManyLadders);
-        }
+        let count = checked_count(described.len())?;
         let mut ladders = [described[0].checked()?; 16];
-        for i in 1..count {
+        for i in 1..described.len() {
             ladders[i] = described[i].checked()?;
         }
-        Ok(SetOf {
-            ladders,
-            count: count as u8,
-        })
+        Ok(SetOf { ladders, count })
     }
 
     // The least lawful price of a ladder not under v, for v within the price limit.

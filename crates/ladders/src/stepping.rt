@@ -2,8 +2,10 @@
 ghost use Prim.Native.Nat.{_≤_};
 ghost use mathlib.Core.Bool.{false};
 ghost use mathlib.Core.Path.{_≡_};
+ghost use lib.Dec.{leb};
 ghost use lib.IntN.{pos};
 ghost use lib.ListN.{length, take};
+ghost use lib.Signed.{ltZ};
 ghost use mathlib.Core.List.{map};
 ghost use Rattle.std.specs.Options.{isSome};
 ghost use Rattle.std.specs.Results.{Cases};
@@ -69,6 +71,13 @@ fn checked_step(last: Option<i64>, before: Tick, next: Band) -> Result<Step, Lad
     Ok(Step { start, tick })
 }
 
+// Whether a ladder may have this many bands after the first.
+fn are_few(later: usize) -> bool
+    ensures { λ r. ⌜ r ≡ leb later 3 ⌝ }
+{
+    later <= 3
+}
+
 // The tick of the first band, which has no start.
 fn checked_first(head: Band) -> Result<Tick, LadderFault>
     ensures { λ r. ⌜ Cases r (λ t. (first-fault head ≡ None) × (band None t ≡ head)) (λ f. first-fault head ≡ Some f) ⌝ }
@@ -99,13 +108,20 @@ fn checked_steps(first: Tick, rest: &[Band]) -> Result<[Step; 3], LadderFault>
     Ok(later)
 }
 
+// Whether v lies under a start: a band ends just under the next.
+fn is_under(v: i64, start: i64) -> bool
+    ensures { λ r. ⌜ r ≡ ltZ v start ⌝ }
+{
+    v < start
+}
+
 // The tick of the band that v lies in.
 fn tick_of(first: Tick, later: &[Step], v: i64) -> Tick
     ensures { λ r. ⌜ r ≡ tick-at first (now (later .entry)) v ⌝ }
 {
     let mut tick = first;
     for step in later {
-        if v < step.start {
+        if is_under(v, step.start) {
             return tick;
         }
         tick = step.tick;
@@ -121,7 +137,7 @@ impl SteppedLadder {
         let [head, rest @ ..] = bands else {
             return Err(LadderFault::NoBand);
         };
-        if rest.len() > 3 {
+        if !are_few(rest.len()) {
             return Err(LadderFault::TooManyBands);
         }
         let first = checked_first(*head)?;

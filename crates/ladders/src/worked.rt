@@ -21,11 +21,41 @@ pub fn worked_roundings() -> [Worked; 6]
     ensures { λ r. ⌜ All Holds r ⌝ }
 {
     [
-        Worked { tick: 10_000, way: Way::Near, fraction: (38_514_999, 1), price: 38_510_000 },
-        Worked { tick: 10, way: Way::Near, fraction: (-15, 1), price: -10 },
-        Worked { tick: 10, way: Way::Near, fraction: (-16, 1), price: -20 },
-        Worked { tick: 10, way: Way::Up, fraction: (101, 1), price: 110 },
-        Worked { tick: 10, way: Way::Up, fraction: (-101, 1), price: -100 },
-        Worked { tick: 10, way: Way::Near, fraction: (100 + 130, 2), price: 120 },
+        Worked {
+            tick: 10_000,
+            way: Way::Near,
+            fraction: (38_514_999, 1),
+            price: 38_510_000,
+        },
+        Worked {
+            tick: 10,
+            way: Way::Near,
+            fraction: (-15, 1),
+            price: -10,
+        },
+        Worked {
+            tick: 10,
+            way: Way::Near,
+            fraction: (-16, 1),
+            price: -20,
+        },
+        Worked {
+            tick: 10,
+            way: Way::Up,
+            fraction: (101, 1),
+            price: 110,
+        },
+        Worked {
+            tick: 10,
+            way: Way::Up,
+            fraction: (-101, 1),
+            price: -100,
+        },
+        Worked {
+            tick: 10,
+            way: Way::Near,
+            fraction: (100 + 130, 2),
+            price: 120,
+        },
     ]
 }

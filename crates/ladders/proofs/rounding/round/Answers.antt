@@ -10,7 +10,7 @@ use Rattle.ladders.specs.Fractions.{inside, floor, ceiling}
 use Rattle.ladders.specs.Prices.{within}
 use Rattle.ladders.specs.Rounding.{Above, Below}
 use Rattle.ladders.specs.Values.{closer-of}
-use Rattle.ladders.proofs.Nearest.{floor-within, ceiling-within, rounds-from, rounds-value}
+use Rattle.ladders.proofs.Nearest.{floor-within, ceiling-within, rounds-from, rounds-value, rounds-close}
 use Rattle.ladders.proofs.rounding.round.Needs as need
 
 -- of a fraction inside the limit, the set always answers
@@ -47,4 +47,5 @@ returns g c =
     let a = subst (λ (v : ℤ). Above P v high) (toZ-ofZ w64 (c .around-floor .result .1) f1 ∙ c .around-floor .ensures .1) (c .in-Continue-above .ensures tt .1) in
     let close = toZ-ofZ w64 (c .closer .result) fc ∙ c .closer .ensures ∙ ap (λ x. closer-of n d x (toZ w64 (ofZ w64 high))) under ∙ ap (closer-of n d low) over in
     let h = rounds-from P n d low high _ ok b a under close over in
-    record { rule = (ok, h); value = rounds-value P (g .S·LadderSet·met .dense (c .args .set .now) (c .args .ladder)) n d _ ok h }
+    let near = g .S·LadderSet·met .dense (c .args .set .now) (c .args .ladder) in
+    record { rule = (ok, h); value = rounds-value P near n d _ ok h; close = rounds-close P near n d _ ok h }

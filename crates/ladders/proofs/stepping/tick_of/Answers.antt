@@ -8,18 +8,18 @@ use Rattle.ladders.specs.Bands.{tick-at}
 use Rattle.ladders.proofs.InBand.{stops-at, goes-past}
 use Rattle.ladders.proofs.stepping.tick_of.Needs as need
 
-pub returns-then-v-step : need.returns-then-v-step
-returns-then-v-step c =
+pub returns-then-is-under : need.returns-then-is-under
+returns-then-is-under c =
     let fits : SFits w64 (c .step-item .result .start) = search needs in
     sym (stops-at (c .args .first) (c .loop-step .tick) (c .args .later .now) (c .loop-step .step-index) (c .step-item .result) _ _
-    (toZ-ofZ w64 (c .step-item .result .start) fits) (c .loop-step-test .taken) (c .step-item .is) (c .loop-step .inv) (c .if-v-step .taken))
+    (toZ-ofZ w64 (c .step-item .result .start) fits) (c .loop-step-test .taken) (c .step-item .is) (c .loop-step .inv) (sym (c .if-is-under .ensures tt)))
     ∙ ap (tick-at (c .args .first) (c .args .later .now)) (toZ-ofZ w64 (c .args .v) (c .fits .v))
 
 pub loop-step-again : need.loop-step-again
 loop-step-again c =
     let fits : SFits w64 (c .step-item .result .start) = search needs in
     goes-past (c .args .first) (c .loop-step .tick) (c .args .later .now) (c .loop-step .step-index) (c .step-item .result) _ _
-    (toZ-ofZ w64 (c .step-item .result .start) fits) (c .loop-step-test .taken) (c .step-item .is) (c .loop-step .inv) (c .if-v-step .left)
+    (toZ-ofZ w64 (c .step-item .result .start) fits) (c .loop-step-test .taken) (c .step-item .is) (c .loop-step .inv) (sym (c .if-is-under .ensures tt))
 
 pub returns : need.returns
 returns c =
