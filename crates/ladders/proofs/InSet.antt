@@ -14,7 +14,7 @@ use Rattle.std.proofs.shelf.Signed.{ints}
 use Rattle.ladders.specs.Faults.{or-else, size-fault}
 use Rattle.ladders.specs.declared.faults.LadderFault.{LadderFault}
 use Rattle.ladders.specs.Rounding.{Above, Below, Near}
-use Rattle.ladders.specs.Sets.{lawful-at, each-fault, set-fault, Told}
+use Rattle.ladders.specs.Sets.{lawful-at, each-fault, set-fault}
 
 module _ {L : Type 0} (holds : L → ℤ → Bool) where
   at-place : (ls : List L) (n : ℕ) (d : L) → n < length ls → lawful-at holds ls n ≡ holds (getD ls n d)
@@ -51,7 +51,14 @@ below-itself P all v r e = record { on = all r; reaches = omega (arith, ints); g
 
 -- ---- one ladder more of a set that is described: d stands at place i
 
-module _ {D L : Type 0} (fault : D → Option LadderFault) (tells : D → L → Type 0) where
+-- the ladders are those described, one by one
+abbrev pub Told : {D L : Type 0} → (D → ℤ → Bool) → (L → ℤ → Bool) → List D → List L → Type 0
+Told prices holds [] [] = Unit {0}
+Told prices holds [] (l ∷ ls) = ⊥
+Told prices holds (d ∷ ds) [] = ⊥
+Told prices holds (d ∷ ds) (l ∷ ls) = ((v : ℤ) → holds l v ≡ prices d v) × Told prices holds ds ls
+
+module _ {D L : Type 0} (fault : D → Option LadderFault) (prices : D → ℤ → Bool) (holds : L → ℤ → Bool) where
   at-drop : (ds : List D) (i : ℕ) (d : D) → i < length ds → d ≡ getD ds i d → each-fault fault (drop i ds) ≡ or-else (fault d) (each-fault fault (drop (i + 1) ds))
   at-drop ds i d h read = at-drop-more (each-fault fault) ds i d h ∙ ap (λ x. or-else (fault x) (each-fault fault (drop (i + 1) ds))) (sym read)
 
@@ -61,18 +68,29 @@ module _ {D L : Type 0} (fault : D → Option LadderFault) (tells : D → L → 
   pub sound-at : (ds : List D) (i : ℕ) (d : D) → i < length ds → d ≡ getD ds i d → each-fault fault ds ≡ each-fault fault (drop i ds) → fault d ≡ None → each-fault fault ds ≡ each-fault fault (drop (i + 1) ds)
   sound-at ds i d h read inv e = inv ∙ at-drop ds i d h read ∙ ap (λ o. or-else o (each-fault fault (drop (i + 1) ds))) e
 
-  told-push : (ds : List D) (ls : List L) (d : D) (l : L) → Told tells ds ls → tells d l → Told tells (ds ++ (d ∷ [])) (ls ++ (l ∷ []))
+  pub told-first : (ds : List D) (d : D) (l : L) → 0 < length ds → d ≡ getD ds 0 d → ((v : ℤ) → holds l v ≡ prices d v) → Told prices holds (take 1 ds) (l ∷ [])
+  told-first [] d l h read e = absurd (omega arith)
+  told-first (x ∷ xs) d l h read e = (λ v. e v ∙ ap (λ y. prices y v) read, tt)
+
+  told-push : (ds : List D) (ls : List L) (d : D) (l : L) → Told prices holds ds ls → ((v : ℤ) → holds l v ≡ prices d v) → Told prices holds (ds ++ (d ∷ [])) (ls ++ (l ∷ []))
   told-push [] [] d l t e = (e, tt)
   told-push [] (m ∷ ms) d l t e = absurd t
   told-push (c ∷ cs) [] d l t e = absurd t
   told-push (c ∷ cs) (m ∷ ms) d l t e = (t .0, told-push cs ms d l (t .1) e)
 
-  pub told-more : (ds : List D) (ls : List L) (i : ℕ) (d : D) (l : L) → i < length ds → i < length ls → d ≡ getD ds i d → Told tells (take i ds) (take i ls) → tells d l → Told tells (take (i + 1) ds) (take (i + 1) (set ls i l))
+  pub told-more : (ds : List D) (ls : List L) (i : ℕ) (d : D) (l : L) → i < length ds → i < length ls → d ≡ getD ds i d → Told prices holds (take i ds) (take i ls) → ((v : ℤ) → holds l v ≡ prices d v) → Told prices holds (take (i + 1) ds) (take (i + 1) (set ls i l))
   told-more ds ls i d l h k read inv e =
       let more = take-more ds i d h ∙ ap (λ x. take i ds ++ (x ∷ [])) (sym read) in
-      subst (λ (xs : List D). Told tells xs (take (i + 1) (set ls i l))) (sym more)
-      (subst (Told tells (take i ds ++ (d ∷ []))) (sym (take-more-set ls i l k)) (told-push (take i ds) (take i ls) d l inv e))
+      subst (λ (xs : List D). Told prices holds xs (take (i + 1) (set ls i l))) (sym more)
+      (subst (Told prices holds (take i ds ++ (d ∷ []))) (sym (take-more-set ls i l k)) (told-push (take i ds) (take i ls) d l inv e))
 
   -- with a lawful number of ladders, the fault of a set is one of its ladders'
   pub sized : (ds : List D) → size-fault (length ds) ≡ None → set-fault fault ds ≡ each-fault fault ds
   sized ds e = ap (λ o. or-else o (each-fault fault ds)) e
+
+  pub told-lawful : (ds : List D) (ls : List L) → Told prices holds ds ls → (n : ℕ) (v : ℤ) → lawful-at holds ls n v ≡ lawful-at prices ds n v
+  told-lawful [] [] t n v = refl
+  told-lawful [] (l ∷ ls) t n v = absurd t
+  told-lawful (d ∷ ds) [] t n v = absurd t
+  told-lawful (d ∷ ds) (l ∷ ls) t zero v = t .0 v
+  told-lawful (d ∷ ds) (l ∷ ls) t (suc n) v = told-lawful ds ls (t .1) n v

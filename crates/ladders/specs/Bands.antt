@@ -1,7 +1,6 @@
--- A stepped ladder: a first band without a start, and later bands that each begin at their start. A band ends just under
--- the next, and its lawful prices are the multiples of its tick.
-use Prim.Native.Nat.{ℕ}
-use mathlib.Core.Bool.{Bool, true, cond, _&&_}
+-- A stepped ladder as it is described: a first band without a start, and later bands that each begin at their start. A
+-- band ends just under the next, and its lawful prices are the multiples of its tick.
+use mathlib.Core.Bool.{Bool, true, false, cond, _&&_}
 use mathlib.Core.List.{List, [], _∷_, map}
 use lib.Dec.{leb}
 use lib.IntN.{ℤ, pos, natAbs}
@@ -18,14 +17,20 @@ use Rattle.ladders.specs.declared.faults.LadderFault.{LadderFault}
 use Rattle.ladders.specs.declared.faults.LadderFault.the-variants.{NoBand, TooManyBands, StartMisplaced, StartOutOfRange, StartsNotRising, StartOffTick}
 use Rattle.ladders.specs.declared.ticks.Tick.{Tick}
 
--- the tick of the band that v lies in, from a band of tick t on
-abbrev pub tick-at : Tick → List Step → ℤ → Tick
-tick-at t [] v = t
-tick-at t (b ∷ bs) v = cond (ltZ v (b .start)) t (tick-at (b .tick) bs v)
+-- v lies under a start; no number lies under a band that has none
+abbrev pub under : ℤ → Option ℤ → Bool
+under v None = false
+under v (Some s) = ltZ v s
 
--- the lawful prices of the ladder
-abbrev pub stepped : Tick → List Step → ℤ → Bool
-stepped t bs v = multiple (tick-at t bs v .points) v
+-- the tick of the band that v lies in, from a band of tick k on
+abbrev pub tick-at : ℤ → List Band → ℤ → ℤ
+tick-at k [] v = k
+tick-at k (b ∷ bs) v = cond (under v (b .start)) k (tick-at (b .tick) bs v)
+
+-- the lawful prices of the bands
+abbrev pub in-bands : List Band → ℤ → Bool
+in-bands [] v = true
+in-bands (b ∷ bs) v = multiple (natAbs (tick-at (b .tick) bs v)) v
 
 -- ---- which descriptions are lawful
 

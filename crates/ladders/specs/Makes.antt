@@ -2,7 +2,7 @@
 use mathlib.Core.Bool.{Bool}
 use lib.IntN.{ℤ}
 use lib.ListN.{take}
-use Rattle.ladders.specs.Bands.{stepped}
+use Rattle.ladders.specs.Bands.{in-bands, description}
 use Rattle.ladders.specs.Multiples.{multiple}
 use Rattle.ladders.specs.declared.stepping.SteppedLadder.{SteppedLadder}
 use Rattle.ladders.specs.declared.ticks.Tick.{Tick}
@@ -11,4 +11,4 @@ abbrev pub even : Tick → ℤ → Bool
 even t = multiple (t .points)
 
 abbrev pub rungs : SteppedLadder → ℤ → Bool
-rungs l = stepped (l .first) (take (l .count) (l .later))
+rungs l = in-bands (description (l .first) (take (l .count) (l .later)))

@@ -24,10 +24,3 @@ each-fault fault (d ∷ ds) = or-else (fault d) (each-fault fault ds)
 -- a set has 1 to 16 ladders, each with a lawful description
 abbrev pub set-fault : {D : Type 0} → (D → Option LadderFault) → List D → Option LadderFault
 set-fault fault ds = or-else (size-fault (length ds)) (each-fault fault ds)
-
--- the descriptions are those of the ladders, one by one
-abbrev pub Told : {D L : Type 0} → (D → L → Type 0) → List D → List L → Type 0
-Told tells [] [] = Unit {0}
-Told tells [] (l ∷ ls) = ⊥
-Told tells (d ∷ ds) [] = ⊥
-Told tells (d ∷ ds) (l ∷ ls) = tells d l × Told tells ds ls

@@ -3,7 +3,7 @@ ghost use Prim.Native.Nat.{ℕ, _≤_};
 ghost use mathlib.Core.Bool.{Bool, true, false};
 ghost use mathlib.Core.Path.{_≡_};
 ghost use lib.IntN.{ℤ};
-ghost use lib.ListN.{take};
+ghost use lib.ListN.{length, take};
 ghost use Rattle.std.specs.Options.{Cases};
 ghost use Rattle.std.specs.Results.{Cases as ByOk};
 ghost use Rattle.std.specs.declared.option.Option.the-variants.{Some, None};
@@ -11,7 +11,7 @@ ghost use Rattle.ladders.specs.Prices.{within};
 ghost use Rattle.ladders.specs.Rounding.{Above, Below, Near};
 ghost use Rattle.ladders.specs.Faults.{size-fault};
 ghost use Rattle.ladders.specs.Makes.{even, rungs};
-ghost use Rattle.ladders.specs.Sets.{lawful-at, set-fault, Told};
+ghost use Rattle.ladders.specs.Sets.{lawful-at, set-fault};
 use crate::describing::Describes;
 use crate::faults::LadderFault;
 use crate::limits::is_within;
@@ -72,7 +72,7 @@ fn checked_count(count: usize) -> Result<u8, LadderFault>
 impl<L: Ladder> SetOf<L> {
     // The set of the ladders that are described, numbered in their order.
     pub fn new<D: Describes<L>>(described: &[D]) -> Result<SetOf<L>, LadderFault>
-        ensures { λ r. ⌜ ByOk r (λ s. (set-fault (D·Describes .fault) (now (described .entry)) ≡ None) × Told (D·Describes .tells) (now (described .entry)) (take (s .count) (s .ladders))) (λ f. set-fault (D·Describes .fault) (now (described .entry)) ≡ Some f) ⌝ }
+        ensures { λ r. ⌜ ByOk r (λ s. (set-fault (D·Describes .fault) (now (described .entry)) ≡ None) × ((s .count ≡ length (now (described .entry))) × ((n : ℕ) (v : ℤ) → lawful-at (L·Ladder .holds) (take (s .count) (s .ladders)) n v ≡ lawful-at (D·Describes .prices) (now (described .entry)) n v))) (λ f. set-fault (D·Describes .fault) (now (described .entry)) ≡ Some f) ⌝ }
     {
         let count = checked_count(described.len())?;
         let mut ladders = [described[0].checked()?; 16];

@@ -10,7 +10,7 @@ ghost use mathlib.Core.List.{map};
 ghost use Rattle.std.specs.Options.{isSome};
 ghost use Rattle.std.specs.Results.{Cases};
 ghost use Rattle.std.specs.declared.option.Option.the-variants.{Some, None};
-ghost use Rattle.ladders.specs.Bands.{tick-at, stepped, band, described, description, rises, band-fault, start-fault, first-fault, later-fault, ladder-fault};
+ghost use Rattle.ladders.specs.Bands.{tick-at, in-bands, band, described, description, rises, band-fault, start-fault, first-fault, later-fault, ladder-fault};
 use crate::bands::Band;
 use crate::bands::Step;
 use crate::faults::LadderFault;
@@ -117,7 +117,7 @@ fn is_under(v: i64, start: i64) -> bool
 
 // The tick of the band that v lies in.
 fn tick_of(first: Tick, later: &[Step], v: i64) -> Tick
-    ensures { λ r. ⌜ r ≡ tick-at first (now (later .entry)) v ⌝ }
+    ensures { λ r. ⌜ pos (r .points) ≡ tick-at (pos (first .points)) (map described (now (later .entry))) v ⌝ }
 {
     let mut tick = first;
     for step in later {
@@ -151,14 +151,14 @@ impl SteppedLadder {
 
     // The tick of the band that v lies in.
     fn tick_at(&self, v: i64) -> Tick
-        ensures { λ r. ⌜ r ≡ tick-at (now (self .entry) .first) (take (now (self .entry) .count) (now (self .entry) .later)) v ⌝ }
+        ensures { λ r. ⌜ pos (r .points) ≡ tick-at (pos (now (self .entry) .first .points)) (map described (take (now (self .entry) .count) (now (self .entry) .later))) v ⌝ }
     {
         tick_of(self.first, &self.later[0..self.count], v)
     }
 }
 
 pub impl Ladder for SteppedLadder as SteppedRungs {
-    ghost holds = { λ l. stepped (l .first) (take (l .count) (l .later)) };
+    ghost holds = { λ l. in-bands (description (l .first) (take (l .count) (l .later))) };
 
     fn above(&self, v: i64) -> Option<i64> {
         self.tick_at(v).above(v)

@@ -4,8 +4,7 @@ use mir.Syntax.{w64}
 use mir.Val.{SFits, toZ, ofZ}
 use Rattle.std.proofs.shelf.Lists.{at-drop-all}
 use Rattle.std.proofs.shelf.Signed.{toZ-ofZ}
-use Rattle.ladders.specs.Bands.{tick-at}
-use Rattle.ladders.proofs.InBand.{stops-at, goes-past}
+use Rattle.ladders.proofs.InBand.{at, stops-at, goes-past}
 use Rattle.ladders.proofs.stepping.tick_of.Needs as need
 
 pub returns-then-is-under : need.returns-then-is-under
@@ -13,7 +12,7 @@ returns-then-is-under c =
     let fits : SFits w64 (c .step-item .result .start) = search needs in
     sym (stops-at (c .args .first) (c .loop-step .tick) (c .args .later .now) (c .loop-step .step-index) (c .step-item .result) _ _
     (toZ-ofZ w64 (c .step-item .result .start) fits) (c .loop-step-test .taken) (c .step-item .is) (c .loop-step .inv) (sym (c .if-is-under .ensures tt)))
-    ∙ ap (tick-at (c .args .first) (c .args .later .now)) (toZ-ofZ w64 (c .args .v) (c .fits .v))
+    ∙ ap (at (c .args .first) (c .args .later .now)) (toZ-ofZ w64 (c .args .v) (c .fits .v))
 
 pub loop-step-again : need.loop-step-again
 loop-step-again c =
@@ -23,5 +22,5 @@ loop-step-again c =
 
 pub returns : need.returns
 returns c =
-    sym (c .loop-step .inv ∙ at-drop-all (λ bs. tick-at (c .loop-step .tick) bs (toZ w64 (ofZ w64 (c .args .v)))) (c .args .later .now) (c .loop-step .step-index) (c .loop-step-test .left))
-    ∙ ap (tick-at (c .args .first) (c .args .later .now)) (toZ-ofZ w64 (c .args .v) (c .fits .v))
+    sym (c .loop-step .inv ∙ at-drop-all (λ bs. at (c .loop-step .tick) bs (toZ w64 (ofZ w64 (c .args .v)))) (c .args .later .now) (c .loop-step .step-index) (c .loop-step-test .left))
+    ∙ ap (at (c .args .first) (c .args .later .now)) (toZ-ofZ w64 (c .args .v) (c .fits .v))

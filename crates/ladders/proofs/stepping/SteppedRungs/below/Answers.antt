@@ -1,12 +1,8 @@
 use mathlib.Core.Path.{_≡_, ap, _∙_}
-use mathlib.Core.Bool.{true, false}
-use lib.IntN.{ℤ}
 use lib.ListN.{take}
 use mir.Syntax.{w64}
-use mir.Val.{toZ, ofZ}
 use Rattle.std.proofs.shelf.Signed.{toZ-ofZ}
-use Rattle.ladders.specs.Bands.{tick-at}
-use Rattle.ladders.proofs.InBand.{below-in-ladder}
+use Rattle.ladders.proofs.InBand.{at, below-in-ladder}
 use Rattle.ladders.proofs.stepping.SteppedRungs.below.Needs as need
 
 pub returns : need.returns
@@ -14,5 +10,5 @@ returns c =
     let l = c .args .self .now in
     let v = toZ-ofZ w64 (c .args .v) (c .fits .v) in
     below-in-ladder (l .first) (c .tick-at .result) (take (l .count) (l .later)) (c .args .v) (c .below .result) (l .lawful)
-    (c .tick-at .ensures ∙ ap (tick-at (l .first) (take (l .count) (l .later))) v)
+    (c .tick-at .ensures ∙ ap (at (l .first) (take (l .count) (l .later))) v)
     (simp v at (c .below .ensures))
