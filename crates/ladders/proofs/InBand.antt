@@ -1,7 +1,7 @@
 -- Rounding on a stepped ladder is rounding to the tick of the band that the number lies in.
 use Prim.Native.Nat.{ℕ, _+_, _<_, _≤_}
 use mathlib.Core.Path.{_≡_, refl, sym, ap, _∙_, subst}
-use mathlib.Core.Bool.{Bool, true, false, cond, _&&_}
+use mathlib.Core.Bool.{Bool, true, false}
 use mathlib.Core.List.{List, [], _∷_, map}
 use native.Mathlib.Omega.{arith}
 use lib.Dec.{leb}
@@ -11,33 +11,23 @@ use lib.Signed.{_≤ℤ_, _<ℤ_, ltZ}
 use Rattle.std.specs.Numbers.{remEuclid}
 use Rattle.std.specs.Options.{Cases, isSome}
 use Rattle.std.proofs.shelf.Signed.{ints, by-ltZ}
-use Rattle.std.proofs.shelf.Tests.{and-parts, cond-true, cond-false, cond-both, true≢false}
+use Rattle.std.proofs.shelf.Tests.{cond-true, cond-false, cond-both, true≢false}
 use Rattle.std.proofs.shelf.Lists.{at-drop-more}
 use Rattle.ladders.specs.Multiples.{multiple}
 use Rattle.ladders.specs.Rounding.{Above, Below, Near}
-use Rattle.ladders.specs.Bands.{tick-at, in-bands, band, described, description, rises, band-fault, start-fault, first-fault, later-fault, ladder-fault}
-use Rattle.ladders.specs.Faults.{or-else, tick-fault}
+use Rattle.ladders.specs.Bands.{tick-at, in-bands, band, described, description, first-fault, later-fault, ladder-fault}
+use Rattle.ladders.specs.Faults.{or-else}
 use Rattle.ladders.specs.declared.bands.Band.{Band}
 use Rattle.ladders.specs.Prices.{within}
 use Rattle.ladders.specs.declared.faults.LadderFault.{LadderFault}
-use Rattle.ladders.specs.declared.faults.LadderFault.the-variants.{TooManyBands, StartOutOfRange, StartsNotRising, StartOffTick}
+use Rattle.ladders.specs.declared.faults.LadderFault.the-variants.{TooManyBands}
 use Rattle.std.specs.declared.option.Option.{Option}
 use Rattle.std.specs.declared.option.Option.the-variants.{Some, None}
 use Rattle.ladders.specs.declared.ticks.Tick.{Tick}
 use Rattle.ladders.specs.declared.bands.Step.{Step}
-use Rattle.ladders.proofs.Orders.{lt-from, lt-test, le-test}
+use Rattle.ladders.proofs.Descriptions.{none-of-both, none-where, next-band}
+use Rattle.ladders.proofs.Orders.{lt-test, le-test}
 use Rattle.ladders.proofs.ToTick.{up-is-above, up-is-near}
-
-some-is-not-none : (f : LadderFault) → Some f ≡ None → ⊥
-some-is-not-none f e = let z : _≡_ {A = ℕ} 0 1 = cc in omega arith
-
-none-of-both : (f g : Option LadderFault) → or-else f g ≡ None → (f ≡ None) × (g ≡ None)
-none-of-both None g e = (refl, e)
-none-of-both (Some f) g e = absurd (some-is-not-none f e)
-
-none-where : (t : Bool) (g : Option LadderFault) (f : LadderFault) → cond t g (Some f) ≡ None → (t ≡ true) × (g ≡ None)
-none-where true g f e = (refl, e)
-none-where false g f e = absurd (some-is-not-none f e)
 
 -- the tick at v of a first band of tick t and the bands after it, and the ladder's lawful prices
 abbrev pub at : Tick → List Step → ℤ → ℤ
@@ -67,14 +57,6 @@ at-range t (b ∷ bs) v =
     (λ _. t .lawful)
     (λ _. at-range (b .tick) bs v)
 
--- what a start without a fault keeps
-sound-start : (a : Band) (k s : ℤ) → start-fault a k (Some s) ≡ None → (rises (a .start) s ≡ true) × ((multiple (natAbs (a .tick)) s && multiple (natAbs k) s) ≡ true)
-sound-start a k s e =
-    let on = cond (multiple (natAbs (a .tick)) s && multiple (natAbs k) s) None (Some StartOffTick) in
-    let risen = none-where (within s) (cond (rises (a .start) s) on (Some StartsNotRising)) StartOutOfRange e .1 in
-    let both = none-where (rises (a .start) s) on StartsNotRising risen in
-    (both .0, none-where (multiple (natAbs (a .tick)) s && multiple (natAbs k) s) None StartOffTick (both .1) .0)
-
 -- what a description without a fault says of the next band
 record Joint (t : Tick) (b : Step) (bs : List Step) : Type 0 where
   before : multiple (t .points) (b .start) ≡ true
@@ -83,21 +65,16 @@ record Joint (t : Tick) (b : Step) (bs : List Step) : Type 0 where
 
 joint : (a : Band) (t : Tick) (b : Step) (bs : List Step) → a .tick ≡ pos (t .points) → later-fault a (map described (b ∷ bs)) ≡ None → Joint t b bs
 joint a t b bs e j =
-    let each = none-of-both (band-fault a (described b)) (later-fault (described b) (map described bs)) j in
-    let start = none-of-both (tick-fault (pos (b .tick .points))) (start-fault a (pos (b .tick .points)) (Some (b .start))) (each .0) .1 in
-    let ticks = and-parts _ _ (sound-start a (pos (b .tick .points)) (b .start) start .1) in
+    let each = next-band a (described b) (b .start) (map described bs) refl j in
     record {
-      before = subst (λ (k : ℤ). multiple (natAbs k) (b .start) ≡ true) e (ticks .0);
-      own = ticks .1;
+      before = subst (λ (k : ℤ). multiple (natAbs k) (b .start) ≡ true) e (each .0 .before);
+      own = each .0 .own;
       rest = each .1;
     }
 
 -- the band after b starts over b
 over-start : (b c : Step) (cs : List Step) → later-fault (described b) (map described (c ∷ cs)) ≡ None → (b .start) <ℤ (c .start)
-over-start b c cs j =
-    let each = none-of-both (band-fault (described b) (described c)) (later-fault (described c) (map described cs)) j in
-    let start = none-of-both (tick-fault (pos (c .tick .points))) (start-fault (described b) (pos (c .tick .points)) (Some (c .start))) (each .0) .1 in
-    lt-from (b .start) (c .start) (sound-start (described b) (pos (c .tick .points)) (c .start) start .0)
+over-start b c cs j = next-band (described b) (described c) (c .start) (map described cs) refl j .0 .over
 
 -- a start is lawful in its own band
 start-lawful : (t : Tick) (b : Step) (bs : List Step) → Joint t b bs → stepped (b .tick) bs (b .start) ≡ true

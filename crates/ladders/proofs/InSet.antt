@@ -1,18 +1,20 @@
 -- What is lawful on a ladder of a set.
 use Prim.Native.Nat.{ℕ, zero, suc, _+_, _<_, _≤_}
 use mathlib.Core.Path.{_≡_, refl, sym, ap, _∙_, subst}
-use mathlib.Core.Bool.{Bool, true, false}
+use mathlib.Core.Bool.{Bool, true, false, cond}
 use mathlib.Core.List.{List, [], _∷_, _++_}
 use native.Mathlib.Omega.{arith}
-use lib.IntN.{ℤ, pos, _+ℤ_}
+use lib.IntN.{ℤ}
 use lib.ListN.{length, getD, set, take, drop}
-use lib.Signed.{_≤ℤ_, _<ℤ_}
+use Rattle.std.specs.Options.{Cases}
 use Rattle.std.specs.declared.option.Option.{Option}
 use Rattle.std.specs.declared.option.Option.the-variants.{Some, None}
 use Rattle.std.proofs.shelf.Lists.{at-drop-more, getD-take, length-take, length-take-le, take-more, take-more-set}
 use Rattle.std.proofs.shelf.Signed.{ints}
 use Rattle.ladders.specs.Faults.{or-else, size-fault}
 use Rattle.ladders.specs.declared.faults.LadderFault.{LadderFault}
+use Rattle.std.proofs.shelf.Tests.{cond-both}
+use Rattle.ladders.specs.Prices.{within}
 use Rattle.ladders.specs.Rounding.{Above, Below, Near}
 use Rattle.ladders.specs.Sets.{lawful-at, each-fault, set-fault}
 
@@ -43,11 +45,19 @@ module _ {L : Type 0} (holds : L → ℤ → Bool) where
   set-is-near near (l ∷ ls) (suc n) z = set-is-near near ls n z
 
 -- where every whole number is lawful, a number is its own rounding
-pub above-itself : (P : ℤ → Bool) → ((v : ℤ) → P v ≡ true) → (v r : ℤ) → r ≡ v → Above P v r
-above-itself P all v r e = record { on = all r; reaches = omega (arith, ints); least = λ q _ l. omega (arith, ints) }
+pub above-itself : (P : ℤ → Bool) → ((v : ℤ) → P v ≡ true) → (v : ℤ) (r : Option ℤ) → r ≡ cond (within v) (Some v) None → Cases r (within v ≡ false) (λ p. (within v ≡ true) × Above P v p)
+above-itself P all v r e =
+    subst (λ (o : Option ℤ). Cases o (within v ≡ false) (λ p. (within v ≡ true) × Above P v p)) (sym e)
+    (cond-both (within v) (Some v) None (λ o. Cases o (within v ≡ false) (λ p. (within v ≡ true) × Above P v p))
+    (λ t. (t, record { on = all v; reaches = omega (arith, ints); least = λ q _ l. l }))
+    (λ t. t))
 
-pub below-itself : (P : ℤ → Bool) → ((v : ℤ) → P v ≡ true) → (v r : ℤ) → r ≡ v → Below P v r
-below-itself P all v r e = record { on = all r; reaches = omega (arith, ints); greatest = λ q _ l. omega (arith, ints) }
+pub below-itself : (P : ℤ → Bool) → ((v : ℤ) → P v ≡ true) → (v : ℤ) (r : Option ℤ) → r ≡ cond (within v) (Some v) None → Cases r (within v ≡ false) (λ p. (within v ≡ true) × Below P v p)
+below-itself P all v r e =
+    subst (λ (o : Option ℤ). Cases o (within v ≡ false) (λ p. (within v ≡ true) × Below P v p)) (sym e)
+    (cond-both (within v) (Some v) None (λ o. Cases o (within v ≡ false) (λ p. (within v ≡ true) × Below P v p))
+    (λ t. (t, record { on = all v; reaches = omega (arith, ints); greatest = λ q _ l. l }))
+    (λ t. t))
 
 -- ---- one ladder more of a set that is described: d stands at place i
 

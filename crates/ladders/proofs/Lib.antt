@@ -1,4 +1,5 @@
 pub mod Checked
+pub mod Descriptions
 pub mod InBand
 pub mod InSet
 pub mod Nearest

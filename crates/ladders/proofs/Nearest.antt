@@ -1,7 +1,7 @@
 -- The values of `Values` are what the relations of `Rounding` ask for.
 use Prim.Native.Nat.{ℕ, zero, suc, _+_, _*_, _<_, _≤_}
 use mathlib.Core.Path.{_≡_, refl, sym, ap, _∙_, subst}
-use mathlib.Core.Bool.{Bool, true, false, cond, _&&_}
+use mathlib.Core.Bool.{Bool, true, false, _&&_}
 use native.Mathlib.Omega.{arith}
 use lib.Dec.{ltb}
 use lib.IntN.{ℤ, pos, negsuc, negℤ, natAbs, _+ℤ_, _-ℤ_, _*ℤ_}
@@ -18,7 +18,7 @@ use Rattle.ladders.specs.declared.rounding.Rounded.{Rounded}
 use Rattle.ladders.specs.Rounding.{Above, Below, Nearest, Near, distance}
 use Rattle.ladders.specs.Fractions.{inside, floor, ceiling}
 use Rattle.ladders.specs.Values.{seek-up, seek-down, above-of, below-of, closer-of, nearest-of}
-use Rattle.ladders.proofs.Products.{times-rises, times-next, times-apart, times-neg, times-sum, times-swap}
+use Rattle.ladders.proofs.Products.{times-rises, times-apart, times-neg, times-sum, times-swap}
 use Rattle.ladders.proofs.ToTick.{split, rest-range}
 use Rattle.ladders.proofs.Orders.{above-rises, below-rises, above-once, below-once, antisym, le-from-test, within-test}
 

@@ -1,20 +1,17 @@
 -- Tests and orders of whole numbers, and what the relations of rounding give by themselves, for any lawful prices.
-use Prim.Native.Nat.{ℕ, _<_, _≤_}
-use mathlib.Core.Path.{_≡_, refl, sym, ap, _∙_, subst}
+use Prim.Native.Nat.{_<_, _≤_}
+use mathlib.Core.Path.{_≡_, sym, _∙_}
 use mathlib.Core.Bool.{Bool, true, false}
 use native.Mathlib.Omega.{arith}
-use lib.IntN.{ℤ, pos, negsuc, _+ℤ_, _-ℤ_, _*ℤ_}
+use lib.IntN.{ℤ, pos, negsuc}
 use lib.Signed.{_≤ℤ_, _<ℤ_, ltZ, leZ}
-use Rattle.std.proofs.shelf.Signed.{ints, by-ltZ}
+use Rattle.std.proofs.shelf.Signed.{ints}
 use Rattle.std.proofs.shelf.Tests.{and-parts, and-from}
 use Rattle.ladders.specs.Prices.{within}
-use Rattle.ladders.specs.Rounding.{Above, Below, Nearest}
+use Rattle.ladders.specs.Rounding.{Above, Below}
 
 pub lt-from : (a b : ℤ) → ltZ a b ≡ true → a <ℤ b
 lt-from a b e = grind (arith, ints)
-
-pub le-from : (a b : ℤ) → ltZ a b ≡ false → b ≤ℤ a
-le-from a b e = grind (arith, ints)
 
 pub lt-test : (a b : ℤ) → a <ℤ b → ltZ a b ≡ true
 lt-test a b e = grind (arith, ints)

@@ -1,9 +1,9 @@
 -- Laws of whole numbers times a natural number. The library has the product and not these.
 use Prim.Native.Nat.{ℕ, zero, suc, _+_, _*_, _^_, _<_, _≤_}
 use mathlib.Core.Path.{_≡_, refl, sym, ap, _∙_, subst}
-use native.Mathlib.Nat.{mul-le-mul-right, add-mul, mul-assoc, mul-comm, zero-mul, mul-right-comm, mul-le-mul, le-of-lt}
+use native.Mathlib.Nat.{mul-le-mul-right, zero-mul, mul-right-comm, mul-le-mul, le-of-lt}
 use native.Mathlib.Omega.{arith}
-use lib.IntN.{ℤ, pos, negsuc, negℤ, natAbs, sucℤ, _+ℤ_, _-ℤ_, _*ℤ_, sucℤ-*ℤ, +ℤ-one, +ℤ-idr, ℤ-ind}
+use lib.IntN.{ℤ, pos, negsuc, negℤ, natAbs, _+ℤ_, _-ℤ_, _*ℤ_, sucℤ-*ℤ, +ℤ-one, +ℤ-idr, ℤ-ind}
 use lib.Signed.{_≤ℤ_, _<ℤ_}
 use mir.Syntax.{w64, w128}
 use mir.Val.{SFits, toZ, ofZ}

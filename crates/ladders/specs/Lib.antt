@@ -1,6 +1,7 @@
 pub mod Prices
 pub mod Multiples
 pub mod Faults
+pub mod Lawful
 pub mod Bands
 pub mod Makes
 pub mod Sets

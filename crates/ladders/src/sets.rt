@@ -1,6 +1,6 @@
 // A set of 1 to 16 ladders, numbered from 0.
 ghost use Prim.Native.Nat.{ℕ, _≤_};
-ghost use mathlib.Core.Bool.{Bool, true, false};
+ghost use mathlib.Core.Bool.{Bool, true, false, cond};
 ghost use mathlib.Core.Path.{_≡_};
 ghost use lib.IntN.{ℤ};
 ghost use lib.ListN.{length, take};
@@ -69,6 +69,13 @@ fn checked_count(count: usize) -> Result<u8, LadderFault>
     }
 }
 
+// A whole number is its own rounding on a ladder that the set lacks.
+fn whole(v: i64) -> Option<i64>
+    ensures { λ r. ⌜ r ≡ cond (within v) (Some v) None ⌝ }
+{
+    if is_within(v) { Some(v) } else { None }
+}
+
 impl<L: Ladder> SetOf<L> {
     // The set of the ladders that are described, numbered in their order.
     pub fn new<D: Describes<L>>(described: &[D]) -> Result<SetOf<L>, LadderFault>
@@ -89,7 +96,7 @@ impl<L: Ladder> SetOf<L> {
         if ladder < self.count {
             return self.ladders[ladder as usize].above(v);
         }
-        if is_within(v) { Some(v) } else { None }
+        whole(v)
     }
 
     // The greatest lawful price of a ladder not over v, for v within the price limit.
@@ -99,7 +106,7 @@ impl<L: Ladder> SetOf<L> {
         if ladder < self.count {
             return self.ladders[ladder as usize].below(v);
         }
-        if is_within(v) { Some(v) } else { None }
+        whole(v)
     }
 }
 

@@ -8,9 +8,11 @@ ghost use lib.ListN.{length, take};
 ghost use lib.Signed.{ltZ};
 ghost use mathlib.Core.List.{map};
 ghost use Rattle.std.specs.Options.{isSome};
-ghost use Rattle.std.specs.Results.{Cases};
+ghost use Rattle.std.specs.Orderings.{Decides};
+ghost use Rattle.std.specs.Results.{Cases, isOk};
 ghost use Rattle.std.specs.declared.option.Option.the-variants.{Some, None};
 ghost use Rattle.ladders.specs.Bands.{tick-at, in-bands, band, described, description, rises, band-fault, start-fault, first-fault, later-fault, ladder-fault};
+ghost use Rattle.ladders.specs.Lawful.{LawfulBands};
 use crate::bands::Band;
 use crate::bands::Step;
 use crate::faults::LadderFault;
@@ -130,8 +132,8 @@ fn tick_of(first: Tick, later: &[Step], v: i64) -> Tick
 }
 
 impl SteppedLadder {
-    // The ladder of these bands.
-    pub fn new(bands: &[Band]) -> Result<SteppedLadder, LadderFault>
+    // The ladder of these bands, checked in their order.
+    fn of(bands: &[Band]) -> Result<SteppedLadder, LadderFault>
         ensures { λ r. ⌜ Cases r (λ l. (ladder-fault (now (bands .entry)) ≡ None) × (description (l .first) (take (l .count) (l .later)) ≡ now (bands .entry))) (λ f. ladder-fault (now (bands .entry)) ≡ Some f) ⌝ }
     {
         let [head, rest @ ..] = bands else {
@@ -147,6 +149,14 @@ impl SteppedLadder {
             later,
             count: rest.len(),
         })
+    }
+
+    // The ladder of these bands: taken exactly if they are lawful, and otherwise refused with the first fault.
+    pub fn new(bands: &[Band]) -> Result<SteppedLadder, LadderFault>
+        ensures taken { λ r. ⌜ Decides (isOk r) (LawfulBands (now (bands .entry))) ⌝ }
+        ensures made { λ r. ⌜ Cases r (λ l. (ladder-fault (now (bands .entry)) ≡ None) × (description (l .first) (take (l .count) (l .later)) ≡ now (bands .entry))) (λ f. ladder-fault (now (bands .entry)) ≡ Some f) ⌝ }
+    {
+        SteppedLadder::of(bands)
     }
 
     // The tick of the band that v lies in.

@@ -1,5 +1,5 @@
 use Prim.Native.Nat.{ℕ}
-use mathlib.Core.Path.{_≡_, sym, subst}
+use mathlib.Core.Path.{sym, subst}
 use lib.IntN.{ℤ}
 use Rattle.ladders.proofs.Nearest.{Answer, rounded-answers, rounding-rises, rounding-alike}
 use Rattle.ladders.proofs.laws.round_two.Needs as need

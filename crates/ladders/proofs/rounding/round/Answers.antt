@@ -6,7 +6,7 @@ use mir.Syntax.{w64}
 use mir.Val.{SFits, toZ, ofZ}
 use Rattle.std.proofs.shelf.Signed.{toZ-ofZ}
 use Rattle.std.proofs.shelf.Tests.{true≢false}
-use Rattle.ladders.specs.Fractions.{inside, floor, ceiling}
+use Rattle.ladders.specs.Fractions.{inside}
 use Rattle.ladders.specs.Prices.{within}
 use Rattle.ladders.specs.Rounding.{Above, Below}
 use Rattle.ladders.specs.Values.{closer-of}

@@ -1,5 +1,5 @@
 use Prim.Native.Nat.{_<_, _^_}
-use mathlib.Core.Path.{_≡_, ap, _∙_}
+use mathlib.Core.Path.{ap, _∙_}
 use native.Mathlib.Omega.{arith}
 use borrow.Author.Needs.{needs}
 use lib.IntN.{pos, natAbs, _-ℤ_, _*ℤ_}

@@ -1,6 +1,6 @@
 use Prim.Native.Nat.{_≤_}
 use mathlib.Core.Bool.{Bool, true, false}
-use mathlib.Core.Path.{_≡_, sym, ap, _∙_, subst}
+use mathlib.Core.Path.{_≡_, subst}
 use native.Mathlib.Omega.{arith}
 use borrow.Author.Needs.{needs}
 use lib.IntN.{ℤ}
@@ -22,10 +22,8 @@ returns-then-ladder-self g c =
     (in-set (g .L·Ladder .holds) (s .ladders) (s .count) (c .args .ladder) (c .index-self-ladder .result) (c .if-ladder-self .taken) few)
     (simp (toZ-ofZ w64 (c .args .v) (c .fits .v)) at (c .below .ensures))
 
-pub returns-then-is-within : need.returns-then-is-within
-returns-then-is-within g c =
+pub returns : need.returns
+returns g c =
     let s = c .args .self .now in
-    let v = toZ-ofZ w64 (c .args .v) (c .fits .v) in (
-      ap within (sym v) ∙ sym (c .if-is-within .ensures tt),
-      below-itself _ (lacks (g .L·Ladder .holds) (s .ladders) (s .count) (c .args .ladder) (c .if-ladder-self .left)) (c .args .v) _ v,
-    )
+    let v = toZ-ofZ w64 (c .args .v) (c .fits .v) in
+    below-itself _ (lacks (g .L·Ladder .holds) (s .ladders) (s .count) (c .args .ladder) (c .if-ladder-self .left)) (c .args .v) (c .whole .result) (simp v at (c .whole .ensures))
