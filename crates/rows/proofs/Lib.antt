@@ -1,0 +1,2 @@
+pub mod RowTest
+pub mod Table

@@ -1,0 +1,6 @@
+pub mod Families
+pub mod Steps
+pub mod Rows
+pub mod Codes
+pub mod RowRules
+pub mod Chosen
