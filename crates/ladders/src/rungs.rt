@@ -10,6 +10,7 @@ pub trait Ladder: Copy {
     // The ladder's meaning: its lawful prices.
     ghost holds: { Self → ℤ → Bool };
 
+    // Neighbouring lawful prices are at most 1,000,000 points apart.
     law dense: { (l : Self) (z : ℤ) → Near (holds l) z };
 
     // The least lawful price not under v, for v within the price limit.

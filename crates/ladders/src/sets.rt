@@ -32,6 +32,7 @@ pub trait LadderSet {
     // On a ladder number that the set lacks, every whole number is lawful.
     law lacking: { (s : Self) (n : ℕ) (v : ℤ) → size s ≤ n → lawful s n v ≡ true };
 
+    // Lawful prices have no end on either side, and neighbours are at most 1,000,000 points apart.
     law dense: { (s : Self) (n : ℕ) (z : ℤ) → Near (lawful s n) z };
 
     fn count(&self) -> u8
