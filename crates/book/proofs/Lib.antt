@@ -1,0 +1,6 @@
+mod Limits
+mod Orders
+pub mod Growth
+pub mod Ranges
+pub mod Folds
+pub mod Taking
