@@ -5,7 +5,7 @@ use mathlib.Core.Bool.{Bool, true, false, cond, _&&_}
 use mathlib.Core.List.{List, [], _∷_, _++_}
 use native.Mathlib.Nat.{add-zero}
 use native.Mathlib.Omega.{arith}
-use lib.IntN.{ℤ}
+use lib.IntN.{ℤ, pos}
 use lib.ListN.{length, getD, take}
 use Rattle.std.specs.shelf.Lists.{folded}
 use Rattle.std.proofs.shelf.Lists.{length-push}
@@ -20,9 +20,14 @@ use Rattle.book.specs.Records.{every, figures-of, recorded}
 use Rattle.book.specs.Windows.{edges}
 use Rattle.book.specs.declared.days.Day.{Day}
 use Rattle.book.specs.declared.entries.Entry.{Entry}
+use Rattle.book.specs.declared.entries.Kind.the-variants.{Trade}
 use Rattle.book.specs.declared.marks.Figures.{Figures}
 use Rattle.book.proofs.Growth.{bounded-entered, bounded-empty}
 use Rattle.book.proofs.Ranges.{allowed-kind, allowed-stamp, outside-stays}
+
+-- what a place past the end of a list of entries reads as
+abbrev pub blank : Entry
+blank = record { series = pos 0; stamp = pos 0; kind = Trade (pos 0) (pos 0) }
 
 -- ---- tests of every element
 

@@ -4,3 +4,5 @@ pub mod Growth
 pub mod Ranges
 pub mod Folds
 pub mod Taking
+mod Told
+mod Handed

@@ -6,3 +6,5 @@ pub mod Figures
 pub mod Bounds
 pub mod Ledgers
 pub mod Records
+pub mod Takings
+pub mod Evidence

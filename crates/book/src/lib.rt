@@ -3,6 +3,7 @@ pub mod books;
 pub mod days;
 pub mod entries;
 pub mod faults;
+pub mod feeds;
 pub mod lawful;
 pub mod marks;
 pub mod windows;

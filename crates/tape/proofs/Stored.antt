@@ -4,7 +4,7 @@ use mathlib.Core.Path.{_≡_, refl, sym, ap, _∙_, subst}
 use mathlib.Core.Bool.{Bool, true}
 use mathlib.Core.List.{List, [], _∷_, _++_}
 use native.Mathlib.Omega.{arith}
-use lib.IntN.{ℤ, pos}
+use lib.IntN.{ℤ}
 use lib.ListN.{length, take, getD, set}
 use Rattle.std.specs.shelf.Lists.{folded}
 use Rattle.std.proofs.shelf.Lists.{length-take-le, take-more-set, length-set}
@@ -16,14 +16,9 @@ use Rattle.book.specs.Ledgers.{Lawful, grown}
 use Rattle.book.specs.Records.{every, recorded}
 use Rattle.book.specs.declared.days.Day.{Day}
 use Rattle.book.specs.declared.entries.Entry.{Entry}
-use Rattle.book.specs.declared.entries.Kind.the-variants.{Trade}
 use Rattle.book.specs.declared.marks.Figures.{Figures}
-use Rattle.book.proofs.Folds.{bounded-fold, every-getD, every-push, every-take, lawful-record, recorded-push, sound-parts}
+use Rattle.book.proofs.Folds.{blank, bounded-fold, every-getD, every-push, every-take, lawful-record, recorded-push, sound-parts}
 use Rattle.book.proofs.Growth.{small-from}
-
--- what a place past the end reads as
-abbrev blank : Entry
-blank = record { series = pos 0; stamp = pos 0; kind = Trade (pos 0) (pos 0) }
 
 -- ---- a scan, on its way to place i
 
