@@ -19,6 +19,7 @@ use book::marks::Values;
 // No book takes more entries, whatever capacity was stated.
 const MOST: usize = 30_000;
 
+#[derive(Drop)]
 pub struct Board {
     table: Table,
     day: Day,

@@ -17,6 +17,7 @@ const SERIES: u8 = 32;
 
 const WINDOWS: u8 = 13;
 
+#[derive(Drop)]
 pub(crate) struct Table {
     cells: [Figures; 416],
 }

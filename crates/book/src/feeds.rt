@@ -24,3 +24,13 @@ pub fn take_all<B: Book>(book: &mut B, entries: &[Entry]) -> usize
     }
     count
 }
+
+// Hands the same entries to two books of any make. Where they meant the same before, they mean the same afterwards.
+pub fn take_both<A: Book, B: Book>(one: &mut A, other: &mut B, entries: &[Entry]) -> (usize, usize)
+    ensures counts { λ r. ⌜ (r .0 ≡ length (taken (A·Book .meaning (now (one .entry))) (now (entries .entry)))) × (r .1 ≡ length (taken (B·Book .meaning (now (other .entry))) (now (entries .entry)))) ⌝ }
+    ensures first { λ _. ⌜ A·Book .meaning (now (one .exit)) ≡ after-all (A·Book .meaning (now (one .entry))) (now (entries .entry)) ⌝ }
+    ensures second { λ _. ⌜ B·Book .meaning (now (other .exit)) ≡ after-all (B·Book .meaning (now (other .entry))) (now (entries .entry)) ⌝ }
+    ensures agree { λ _. ⌜ (A·Book .meaning (now (one .entry)) ≡ B·Book .meaning (now (other .entry)) → A·Book .meaning (now (one .exit)) ≡ B·Book .meaning (now (other .exit))) ⌝ }
+{
+    (take_all(one, entries), take_all(other, entries))
+}

@@ -22,6 +22,7 @@ use book::windows::edges;
 const MOST: usize = 30_000;
 
 // The entries taken stand in the first `count` places, in the order taken.
+#[derive(Drop)]
 pub struct Tape<'a> {
     slots: &'a mut [Entry],
     count: usize,
