@@ -9,9 +9,9 @@ ghost use Rattle.book.specs.Ledgers.{fresh};
 ghost use Rattle.board.specs.Cells.{cell, tabled};
 use crate::tables::Table;
 use book::books::Book;
+use book::books::admit;
 use book::days::Day;
 use book::entries::Entry;
-use book::entries::is_allowed;
 use book::faults::BookFault;
 use book::lawful::LawfulDay;
 use book::marks::Values;
@@ -56,12 +56,12 @@ pub impl Book for Board as BoardBook {
     ghost meaning = { λ b. tabled (b .day) (b .capacity) (b .count) (b .table .cells) };
 
     fn take(&mut self, entry: Entry) -> Result<(), BookFault> {
-        if !is_allowed(&self.day, &entry) {
-            return Err(BookFault::BeyondLimits);
-        }
-        if self.count == self.capacity {
-            return Err(BookFault::Full);
-        }
+        admit(
+            &self.day,
+            usize::from(self.count),
+            usize::from(self.capacity),
+            &entry,
+        )?;
         self.table.enter_all(&self.day, &entry);
         self.count += 1;
         Ok(())

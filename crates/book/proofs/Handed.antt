@@ -3,26 +3,21 @@ use Prim.Native.Nat.{ℕ, _+_, _≤_, _<_}
 use mathlib.Core.Path.{_≡_, refl, sym, ap, _∙_, subst}
 use mathlib.Core.Bool.{Bool, true, false, cond}
 use mathlib.Core.List.{List, [], _∷_, _++_}
-use mathlib.Core.Logic.{_⊎_, inl, inr, ⊎-elim}
+use mathlib.Core.Logic.{⊎-elim}
 use native.Mathlib.Omega.{arith}
-use lib.Dec.{eqb}
 use lib.ListN.{length, getD, take}
 use Rattle.std.specs.Results.{isOk}
-use Rattle.std.specs.declared.result.Result.{Result}
-use Rattle.std.specs.declared.result.Result.the-variants.{Ok, Err}
 use Rattle.std.proofs.shelf.Lists.{append-assoc, append-nil, length-append, take-more}
 use Rattle.std.proofs.shelf.Sums.{folded-more}
-use Rattle.std.proofs.shelf.Tests.{cases-bool, cond-false, cond-true}
-use Rattle.book.specs.Entries.{allowed}
+use Rattle.std.proofs.shelf.Tests.{cond-false, cond-true}
 use Rattle.book.specs.Evidence.{Evidence}
 use Rattle.book.specs.Ledgers.{Ledger, after, answer, fresh, grown}
 use Rattle.book.specs.Records.{recorded}
 use Rattle.book.specs.Takings.{after-all, taken}
 use Rattle.book.specs.declared.days.Day.{Day}
 use Rattle.book.specs.declared.entries.Entry.{Entry}
-use Rattle.book.specs.declared.faults.BookFault.{BookFault}
-use Rattle.book.specs.declared.faults.BookFault.the-variants.{BeyondLimits, Full}
 use Rattle.book.proofs.Folds.{recorded-push}
+use Rattle.book.proofs.Taking.{taken-or-refused}
 use Rattle.book.proofs.Told.{evidence}
 
 -- ---- one entry more
@@ -62,15 +57,6 @@ counted-refused m now es i d n h so-far count ok =
 
 -- ---- a new book means what the entries taken tell
 
-abbrev reply : Bool → Bool → Result Unit BookFault
-reply a q = cond a (cond q (Err Full) (Ok tt)) (Err BeyondLimits)
-
--- an entry is taken and grows the book, or is refused and leaves it
-either-way : (a q : Bool) (m g : Ledger) → ((isOk (reply a q) ≡ true) × (cond a (cond q m g) m ≡ g)) ⊎ ((isOk (reply a q) ≡ false) × (cond a (cond q m g) m ≡ m))
-either-way true true m g = inr (refl, refl)
-either-way true false m g = inl (refl, refl)
-either-way false q m g = inr (refl, refl)
-
 -- a book of the entries xs, handed the entries es, means what xs and those taken of es tell
 abbrev Recorded : Day → ℕ → List Entry → List Entry → Type 0
 Recorded d k xs es = after-all (recorded d k xs) es ≡ recorded d k (xs ++ taken (recorded d k xs) es)
@@ -99,7 +85,7 @@ recorded-all d k xs (e ∷ es) =
     ⊎-elim
     (λ p. grows d k xs es e (p .0) (p .1) (recorded-all d k (xs ++ (e ∷ [])) es))
     (λ p. stays d k xs es e (p .0) (p .1) (recorded-all d k xs es))
-    (either-way (allowed d e) (eqb (length xs) k) (recorded d k xs) (grown (recorded d k xs) e))
+    (taken-or-refused (recorded d k xs) e)
 
 pub told : (m then : Ledger) (es : List Entry) → then ≡ after-all m es → (d : Day) (k : ℕ) → m ≡ fresh d k → Evidence then (taken (fresh d k) es)
 told m then es is d k new =

@@ -27,10 +27,13 @@ pub record Ledger : Type 0 where
 abbrev pub fresh : Day → ℕ → Ledger
 fresh d k = record { day = d; capacity = k; count = 0; figures = λ s w. empty }
 
--- an entry that is not allowed is refused so, whether or not there is a place; else one that finds none is refused
+-- an entry that is not allowed is refused so, whether or not there is a place; else one that finds none is refused, and
+-- there is no other refusal
+abbrev pub reply : Day → ℕ → ℕ → Entry → Result Unit BookFault
+reply d count capacity e = cond (allowed d e) (cond (eqb count capacity) (Err Full) (Ok tt)) (Err BeyondLimits)
+
 abbrev pub answer : Ledger → Entry → Result Unit BookFault
-answer m e =
-    cond (allowed (m .day) e) (cond (eqb (m .count) (m .capacity)) (Err Full) (Ok tt)) (Err BeyondLimits)
+answer m e = reply (m .day) (m .count) (m .capacity) e
 
 -- an entry enters the figures of its series in every window that holds its stamp; all else stays
 abbrev pub entered : Day → ℕ → ℕ → Figures → Entry → Figures

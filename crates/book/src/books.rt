@@ -1,13 +1,36 @@
 // A book, known by its meaning alone.
 ghost use mathlib.Core.Bool.{true};
 ghost use mathlib.Core.Path.{_≡_};
+ghost use lib.Dec.{eqb};
 ghost use Rattle.book.specs.Bounds.{bounded};
 ghost use Rattle.book.specs.Figures.{values};
-ghost use Rattle.book.specs.Ledgers.{Ledger, Lawful, after, answer};
+ghost use Rattle.book.specs.Ledgers.{Ledger, Lawful, after, answer, reply};
 use crate::days::Day;
 use crate::entries::Entry;
+use crate::entries::is_allowed;
 use crate::faults::BookFault;
 use crate::marks::Values;
+
+fn is_full(count: usize, capacity: usize) -> bool
+    ensures { λ r. ⌜ r ≡ eqb count capacity ⌝ }
+{
+    count == capacity
+}
+
+// Whether a book of the day, with so many entries taken, may take the entry. A number beyond its limits comes before a
+// full book.
+pub fn admit(day: &Day, count: usize, capacity: usize, entry: &Entry) -> Result<(), BookFault>
+    ensures { λ r. ⌜ r ≡ reply (now (day .entry)) count capacity (now (entry .entry)) ⌝ }
+{
+    let full = is_full(count, capacity);
+    if !is_allowed(day, entry) {
+        return Err(BookFault::BeyondLimits);
+    }
+    if full {
+        return Err(BookFault::Full);
+    }
+    Ok(())
+}
 
 pub trait Book {
     // The day record, the capacity, how many entries were taken, and the figures of every series and window.

@@ -10,9 +10,9 @@ ghost use Rattle.book.specs.Ledgers.{fresh};
 ghost use Rattle.book.specs.Records.{every, recorded};
 use crate::scans::scan;
 use book::books::Book;
+use book::books::admit;
 use book::days::Day;
 use book::entries::Entry;
-use book::entries::is_allowed;
 use book::faults::BookFault;
 use book::lawful::LawfulDay;
 use book::marks::Values;
@@ -33,6 +33,13 @@ pub struct Tape<'a> {
     ghost allowed: { every (allowed day) (take count (now slots)) ≡ true },
 }
 
+// How many entries fit into so many places.
+fn fitting(places: usize) -> usize
+    ensures { λ r. ⌜ r ≡ min places 30000 ⌝ }
+{
+    places.min(MOST)
+}
+
 impl<'a> Tape<'a> {
     // An empty tape for the day: it has as many places as it is lent, and at most 30,000.
     pub fn new(day: LawfulDay, slots: &'a mut [Entry]) -> Tape<'a>
@@ -50,12 +57,8 @@ pub impl Book for Tape<'_> as TapeBook {
     ghost meaning = { λ t. recorded (t .day) (min (length (now (t .slots))) 30000) (take (t .count) (now (t .slots))) };
 
     fn take(&mut self, entry: Entry) -> Result<(), BookFault> {
-        if !is_allowed(&self.day, &entry) {
-            return Err(BookFault::BeyondLimits);
-        }
-        if self.count == self.slots.len().min(MOST) {
-            return Err(BookFault::Full);
-        }
+        let capacity = fitting(self.slots.len());
+        admit(&self.day, self.count, capacity, &entry)?;
         self.slots[self.count] = entry;
         self.count += 1;
         Ok(())
@@ -70,7 +73,7 @@ pub impl Book for Tape<'_> as TapeBook {
     }
 
     fn capacity(&self) -> u16 {
-        self.slots.len().min(MOST) as u16
+        fitting(self.slots.len()) as u16
     }
 
     fn count(&self) -> u16 {

@@ -1,40 +1,44 @@
-use Prim.Native.Nat.{_<_, _+_, _≤_, min}
-use mathlib.Core.Path.{_≡_, sym, _∙_}
-use mathlib.Core.Bool.{true}
+use Prim.Native.Nat.{_+_, _<_, _≤_, min}
+use mathlib.Core.Path.{_≡_, sym, ap, _∙_}
 use native.Mathlib.Omega.{arith}
 use lib.ListN.{length, take, set}
+use Rattle.std.specs.declared.result.Result.the-variants.{Err}
 use Rattle.std.proofs.shelf.Lists.{length-set}
-use Rattle.book.specs.Entries.{allowed}
+use Rattle.std.proofs.shelf.Results.{err-from-errBy}
 use Rattle.book.specs.Records.{recorded}
-use Rattle.book.proofs.Taking.{answer-taken, after-taken}
-use Rattle.tape.proofs.Stored.{allowed-more, has-room, stored-more}
+use Rattle.book.proofs.Taking.{refused-stays}
+use Rattle.tape.proofs.Stored.{allowed-more, same-answer, stores}
 use Rattle.tape.proofs.tapes.TapeBook.take.Needs as need
 
-pub ghost-self : need.ghost-self
-ghost-self c =
+pub returns-in-Break-admit : need.returns-in-Break-admit
+returns-in-Break-admit c =
     let t = c .args .self .now in
-    let held = t .held in
-    let few = t .few in
-    let most = c .min .ensures in
-    let free = c .if-self-min .left in
-    let place : t .count < length (t .slots .now) = omega arith in
-    let kept = length-set (t .slots .now) (t .count) (c .args .entry) in
-    (t .lawful, (omega arith, (omega arith, (allowed-more (t .day) (t .slots .now) (t .count) (c .args .entry) place (t .allowed) (sym (c .if-not-is-allowed .ensures tt)), tt))))
+    let slots = t .slots .now in
+    let e = c .args .entry in
+    let p = err-from-errBy (c .from-residual .result) (c .from-residual .ensures .1) in
+    let said = c .in-Break-admit .ensures tt ∙ same-answer (t .day) slots (t .count) (c .fitting-capacity .result) e (t .held) (c .fitting-capacity .ensures) in
+    record {
+      answer = p .1 ∙ ap Err (p .2) ∙ said;
+      after = refused-stays (recorded (t .day) (min (length slots) 30000) (take (t .count) slots)) e _ said;
+    }
+
+pub index-self-self : need.index-self-self
+index-self-self c =
+    let t = c .args .self .now in
+    stores (t .day) (t .slots .now) (t .count) (c .fitting-capacity .result) (c .args .entry) (t .held) (t .few) (c .fitting-capacity .ensures) (c .in-Continue-admit .ensures tt) .place
+
+pub ghost-self-2 : need.ghost-self-2
+ghost-self-2 c =
+    let t = c .args .self .now in
+    let e = c .args .entry in
+    let s = stores (t .day) (t .slots .now) (t .count) (c .fitting-capacity .result) e (t .held) (t .few) (c .fitting-capacity .ensures) (c .in-Continue-admit .ensures tt) in
+    let place = s .place in
+    let few = s .few in
+    let kept = length-set (t .slots .now) (t .count) e in
+    (t .lawful, (omega arith, (omega arith, (allowed-more (t .day) (t .slots .now) (t .count) e place (t .allowed) (s .lawful), tt))))
 
 pub returns : need.returns
 returns c =
     let t = c .args .self .now in
-    let e = c .args .entry in
-    let slots = t .slots .now in
-    let held = t .held in
-    let few = t .few in
-    let most = c .min .ensures in
-    let free = c .if-self-min .left in
-    let place : t .count < length slots = omega arith in
-    let m = recorded (t .day) (min (length slots) 30000) (take (t .count) slots) in
-    let ok = sym (c .if-not-is-allowed .ensures tt) in
-    let room = has-room slots (t .count) (c .min .result) held most free in
-    record {
-      answer = sym (answer-taken m e ok room);
-      after = stored-more (t .day) slots (t .count) e place ∙ sym (after-taken m e ok room);
-    }
+    let s = stores (t .day) (t .slots .now) (t .count) (c .fitting-capacity .result) (c .args .entry) (t .held) (t .few) (c .fitting-capacity .ensures) (c .in-Continue-admit .ensures tt) in
+    record { answer = s .said; after = s .after }
