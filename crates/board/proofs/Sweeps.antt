@@ -1,16 +1,16 @@
 -- An entry goes through the windows of its series, one after the other.
 use Prim.Native.Nat.{ℕ, _+_, _≤_, _<_}
 use mathlib.Core.Path.{_≡_, refl, sym, ap, _∙_, subst}
-use mathlib.Core.Bool.{Bool, true, false, cond, _&&_}
+use mathlib.Core.Bool.{true, false, cond, _&&_}
 use mathlib.Core.List.{List}
 use mathlib.Core.Logic.{⊎-elim}
 use native.Mathlib.Omega.{arith}
 use lib.Dec.{eqb, leb, ltb}
 use lib.IntN.{ℤ, pos}
-use Rattle.std.proofs.shelf.Tests.{and-parts, and-from, and-left, and-right, cases-bool, cases-eq, cond-true, cond-false, cond-both, eq-eqb, ne-eqb, le-leb, lt-ltb, le-ltb}
+use Rattle.std.proofs.shelf.Tests.{and-from, and-left, and-right, cases-bool, cases-eq, cond-true, cond-false, cond-both, eq-eqb, ne-eqb, le-leb, lt-ltb, le-ltb}
 use Rattle.std.proofs.shelf.Ways.{tells}
 use Rattle.book.specs.Entries.{allowed}
-use Rattle.book.specs.Figures.{Small, concerns, entered-in, is-series, marked}
+use Rattle.book.specs.Figures.{Small, concerns, entered-in, is-series}
 use Rattle.book.specs.Ledgers.{entered, in-range}
 use Rattle.book.specs.Windows.{edges, holds}
 use Rattle.book.specs.declared.days.Day.{Day}

@@ -1,7 +1,7 @@
 -- What holds of figures after any allowed entries.
 use Prim.Native.Nat.{ℕ, zero, suc, _+_, _≤_, _<_}
 use mathlib.Core.Path.{_≡_, refl, sym, ap, _∙_, subst}
-use mathlib.Core.Bool.{Bool, true, false, cond, _&&_}
+use mathlib.Core.Bool.{Bool, true, false}
 use mathlib.Core.List.{List, [], _∷_, _++_}
 use native.Mathlib.Nat.{add-zero}
 use native.Mathlib.Omega.{arith}
@@ -15,7 +15,7 @@ use Rattle.book.specs.Bounds.{bounded}
 use Rattle.book.specs.Days.{is-lawful}
 use Rattle.book.specs.Entries.{allowed, kind-lawful}
 use Rattle.book.specs.Figures.{empty, entered-in, sound, stamp-small, values}
-use Rattle.book.specs.Ledgers.{Ledger, Lawful, entered, grown, in-range}
+use Rattle.book.specs.Ledgers.{Lawful, entered, grown, in-range}
 use Rattle.book.specs.Records.{every, figures-of, recorded}
 use Rattle.book.specs.Windows.{edges}
 use Rattle.book.specs.declared.days.Day.{Day}

@@ -1,20 +1,18 @@
 -- Figures stay within their bounds as entries enter them: what both makes of book need.
-use Prim.Native.Nat.{ℕ, _+_, _*_, _≤_, _<_}
-use mathlib.Core.Path.{_≡_, refl, sym, ap, _∙_, subst}
+use Prim.Native.Nat.{ℕ, _+_, _*_, _≤_}
+use mathlib.Core.Path.{_≡_, refl, ap, _∙_}
 use mathlib.Core.Bool.{Bool, true, false, cond, _&&_}
-use native.Mathlib.Nat.{add-mul, one-mul}
 use native.Mathlib.Omega.{arith}
 use lib.Dec.{leb}
-use lib.IntN.{ℤ, pos, negsuc, natAbs, _+ℤ_, _*ℤ_}
+use lib.IntN.{ℤ, pos, natAbs, _+ℤ_, _*ℤ_}
 use lib.Signed.{leZ, _≤ℤ_}
 use Rattle.std.specs.declared.option.Option.{Option}
 use Rattle.std.specs.declared.option.Option.the-variants.{Some, None}
 use Rattle.std.proofs.shelf.Signed.{ints}
 use Rattle.std.proofs.shelf.Tests.{and-parts, and-from, cond-both, leb-true, le-leb}
-use Rattle.std.proofs.shelf.Ways.{tells}
 use Rattle.book.specs.Bounds.{bounded, sums-within, spread-if, sides-if}
-use Rattle.book.specs.Entries.{allowed, kind-lawful, lots-lawful, price-lawful, side-lawful, spread-lawful, uncrossed}
-use Rattle.book.specs.Figures.{Small, concerns, empty, entered-in, latest, marked, settled, stamp-small, traded, values, with-auction}
+use Rattle.book.specs.Entries.{kind-lawful, lots-lawful, price-lawful, side-lawful, uncrossed}
+use Rattle.book.specs.Figures.{Small, concerns, empty, entered-in, latest, marked, roomy, settled, sound, stamp-small, traded, values, with-auction}
 use Rattle.book.specs.declared.entries.Entry.{Entry}
 use Rattle.book.specs.declared.entries.Kind.{Kind}
 use Rattle.book.specs.declared.entries.Kind.the-variants.{Trade, Auction, Leg, Spread, Quote}
@@ -166,3 +164,24 @@ small-from n f b h =
     let dear = p .dear in
     let lots : natAbs (f .lots) ≤ 3000000000 = omega (arith, ints) in
     record { lots = lots; money = omega arith }
+
+small-roomy : (f : Figures) → Small f → roomy f ≡ true
+small-roomy f s = and-from (leb (natAbs (f .lots)) 3000000000) (leb (natAbs (f .money)) 3000000000000000000) (le-leb _ _ (s .lots)) (le-leb _ _ (s .money))
+
+-- a sound entry, where there is room, enters the figures that it concerns
+pub enters : (s : ℕ) (x : ℤ × ℤ) (f : Figures) (e : Entry) → stamp-small (e .stamp) ≡ true → kind-lawful (e .kind) ≡ true → Small f → cond (concerns s x e && (sound e && roomy f)) (marked (e .kind) (e .stamp) f) f ≡ entered-in s x f e
+enters s x f e stamp kind small =
+    let ready = and-from (sound e) (roomy f) (and-from (stamp-small (e .stamp)) (kind-lawful (e .kind)) stamp kind) (small-roomy f small) in
+    ap (λ b. cond (concerns s x e && b) (marked (e .kind) (e .stamp) f) f) ready ∙ ap (λ b. cond b (marked (e .kind) (e .stamp) f) f) (and-true (concerns s x e))
+  where
+    and-true : (b : Bool) → (b && true) ≡ b
+    and-true true = refl
+    and-true false = refl
+
+-- what such an entry and such figures keep
+pub ready : (f : Figures) (e : Entry) (b : Bool) → (b && (sound e && roomy f)) ≡ true → (stamp-small (e .stamp) ≡ true) × ((kind-lawful (e .kind) ≡ true) × Small f)
+ready f e b h =
+    let both = and-parts (sound e) (roomy f) (and-parts b (sound e && roomy f) h .1) in
+    let kept = and-parts (stamp-small (e .stamp)) (kind-lawful (e .kind)) (both .0) in
+    let room = and-parts (leb (natAbs (f .lots)) 3000000000) (leb (natAbs (f .money)) 3000000000000000000) (both .1) in
+    (kept .0, (kept .1, record { lots = leb-true _ _ (room .0); money = leb-true _ _ (room .1) }))

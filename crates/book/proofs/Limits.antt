@@ -1,16 +1,15 @@
 -- What the limits on prices and lots give for their products.
-use Prim.Native.Nat.{ℕ, zero, suc, _*_, _≤_}
-use mathlib.Core.Path.{_≡_, refl, sym, ap, _∙_, subst}
+use Prim.Native.Nat.{ℕ, _*_, _≤_}
+use mathlib.Core.Path.{_≡_, refl, sym}
 use mathlib.Core.Bool.{true}
-use native.Mathlib.Nat.{mul-le-mul, mul-comm, mul-le-mul-right}
+use native.Mathlib.Nat.{mul-comm, mul-le-mul-right}
 use native.Mathlib.Omega.{arith}
 use lib.IntN.{ℤ, pos, negsuc, natAbs, _*ℤ_}
-use lib.Signed.{leZ, _≤ℤ_}
 use mir.Syntax.{w64}
 use mir.Val.{SFits}
 use Rattle.std.proofs.shelf.Signed.{ints}
-use Rattle.std.proofs.shelf.Tests.{true≢false, and-parts}
-use Rattle.book.specs.Entries.{price-lawful, spread-lawful, lots-lawful}
+use Rattle.std.proofs.shelf.Tests.{true≢false}
+use Rattle.book.specs.Entries.{price-lawful, lots-lawful}
 
 pub price-bound : (v : ℤ) → price-lawful v ≡ true → natAbs v ≤ 1000000000
 price-bound v h = grind (arith, ints)

@@ -1,10 +1,10 @@
 -- What an allowed entry keeps, and the series and windows that no entry is for.
 use Prim.Native.Nat.{ℕ, zero, suc, _≤_, _<_}
-use mathlib.Core.Path.{_≡_, refl, sym, ap, _∙_, subst}
-use mathlib.Core.Bool.{Bool, true, false, cond, _&&_}
+use mathlib.Core.Path.{_≡_, refl, sym, ap, _∙_}
+use mathlib.Core.Bool.{true, false, _&&_}
 use mathlib.Core.Logic.{⊎-elim}
 use native.Mathlib.Omega.{arith}
-use lib.Dec.{leb, eqb}
+use lib.Dec.{leb}
 use lib.IntN.{ℤ, pos, negsuc, natAbs}
 use lib.Signed.{leZ, ltZ, _≤ℤ_}
 use Rattle.std.proofs.shelf.Lists.{getD-past}
@@ -18,7 +18,7 @@ use Rattle.book.specs.Windows.{edges, holds, nothing, windows}
 use Rattle.book.specs.declared.days.Day.{Day}
 use Rattle.book.specs.declared.entries.Entry.{Entry}
 use Rattle.book.specs.declared.marks.Figures.{Figures}
-use Rattle.book.proofs.Orders.{le-from, le-test, lt-from}
+use Rattle.book.proofs.Orders.{le-from, le-test}
 
 pub allowed-kind : (d : Day) (e : Entry) → allowed d e ≡ true → kind-lawful (e .kind) ≡ true
 allowed-kind d e h =

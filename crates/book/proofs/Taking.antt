@@ -3,15 +3,13 @@ use Prim.Native.Nat.{ℕ}
 use mathlib.Core.Path.{_≡_, refl, sym, ap, _∙_}
 use mathlib.Core.Bool.{Bool, true, false, cond}
 use mathlib.Core.Logic.{_⊎_, inl, inr, ⊎-elim}
-use native.Mathlib.Omega.{arith}
 use lib.Dec.{eqb}
 use Rattle.std.specs.Results.{isOk}
 use Rattle.std.specs.declared.result.Result.{Result}
 use Rattle.std.specs.declared.result.Result.the-variants.{Ok, Err}
-use Rattle.std.proofs.shelf.Tests.{both-ways, eq-eqb, true≢false}
+use Rattle.std.proofs.shelf.Tests.{both-ways, eq-eqb}
 use Rattle.book.specs.Entries.{allowed}
 use Rattle.book.specs.Ledgers.{Ledger, after, answer, grown, reply}
-use Rattle.book.specs.declared.days.Day.{Day}
 use Rattle.book.specs.declared.entries.Entry.{Entry}
 use Rattle.book.specs.declared.faults.BookFault.{BookFault}
 use Rattle.book.specs.declared.faults.BookFault.the-variants.{BeyondLimits, Full}

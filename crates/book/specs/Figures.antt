@@ -1,7 +1,7 @@
 -- The figures of one series and window, and how an entry enters them.
 use Prim.Native.Nat.{ℕ, _≤_}
-use mathlib.Core.Bool.{Bool, true, false, cond, _&&_}
-use lib.Dec.{eqb}
+use mathlib.Core.Bool.{Bool, false, cond, _&&_}
+use lib.Dec.{eqb, leb}
 use lib.IntN.{ℤ, pos, negsuc, natAbs, _+ℤ_, _*ℤ_}
 use lib.Signed.{leZ}
 use Rattle.std.specs.declared.option.Option.{Option}
@@ -107,6 +107,10 @@ values f = record {
 pub record Small (f : Figures) : Type 0 where
   pub lots : natAbs (f .lots) ≤ 3000000000
   pub money : natAbs (f .money) ≤ 3000000000000000000
+
+-- the same as a test
+abbrev pub roomy : Figures → Bool
+roomy f = leb (natAbs (f .lots)) 3000000000 && leb (natAbs (f .money)) 3000000000000000000
 
 abbrev pub stamp-small : ℤ → Bool
 stamp-small t = holds (pos 0, pos 172799) t

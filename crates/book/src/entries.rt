@@ -70,7 +70,7 @@ fn is_uncrossed(bid: Option<i64>, ask: Option<i64>) -> bool
     }
 }
 
-fn is_kind_lawful(kind: Kind) -> bool
+pub(crate) fn is_kind_lawful(kind: Kind) -> bool
     ensures { λ r. ⌜ r ≡ kind-lawful kind ⌝ }
 {
     match kind {

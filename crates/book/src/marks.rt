@@ -1,12 +1,20 @@
 // The figures of one series and window.
 ghost use Prim.Native.Nat.{_≤_};
-ghost use mathlib.Core.Bool.{true};
+ghost use mathlib.Core.Bool.{true, cond, _&&_};
 ghost use mathlib.Core.Path.{_≡_};
 ghost use lib.IntN.{natAbs, _*ℤ_};
 ghost use Rattle.book.specs.Entries.{kind-lawful, lots-lawful, price-lawful, side-lawful};
-ghost use Rattle.book.specs.Figures.{Small, concerns, empty, entered-in, latest, marked, settled, stamp-small, traded, values};
+ghost use Rattle.book.specs.Figures.{Small, concerns, empty, latest, marked, roomy, settled, sound, stamp-small, traded, values};
 use crate::entries::Entry;
 use crate::entries::Kind;
+use crate::entries::is_kind_lawful;
+
+// The last second of any day, and what the sums of 30,000 entries keep within.
+const LAST_STAMP: i64 = 172_799;
+
+const MOST_LOTS: u64 = 3_000_000_000;
+
+const MOST_MONEY: u64 = 3_000_000_000_000_000_000;
 
 // A last figure with its stamp.
 #[derive(Clone, Copy, PartialEq, Eq, Debug)]
@@ -107,6 +115,13 @@ fn concerns(e: &Entry, series: u8, edges: (i64, i64)) -> bool
     (e.series == i64::from(series)) & ((first <= e.stamp) & (e.stamp <= last))
 }
 
+// Whether the stamp and the numbers of an entry are within the limits of any day.
+fn is_sound(e: &Entry) -> bool
+    ensures { λ r. ⌜ r ≡ sound (now (e .entry)) ⌝ }
+{
+    ((0 <= e.stamp) & (e.stamp <= LAST_STAMP)) & is_kind_lawful(e.kind)
+}
+
 impl Figures {
     // Nothing is last, and the sums are 0.
     pub fn empty() -> Figures
@@ -176,15 +191,19 @@ impl Figures {
         }
     }
 
-    // For the makes of book: an entry enters the figures of a series and of a window with these edges, if it is for them.
-    // The sums must have room for one entry more.
-    pub fn enter_in(&mut self, e: &Entry, series: u8, edges: (i64, i64))
-        requires stamp { ⌜ stamp-small (now e .stamp) ≡ true ⌝ }
-        requires kind { ⌜ kind-lawful (now e .kind) ≡ true ⌝ }
-        requires room { ⌜ Small (now self) ⌝ }
-        ensures { λ _. ⌜ now (self .exit) ≡ entered-in series edges (now (self .entry)) (now (e .entry)) ⌝ }
+    // Whether the sums have room for one entry more.
+    fn has_room(&self) -> bool
+        ensures { λ r. ⌜ r ≡ roomy (now (self .entry)) ⌝ }
     {
-        if concerns(e, series, edges) {
+        (self.lots.unsigned_abs() <= MOST_LOTS) & (self.money.unsigned_abs() <= MOST_MONEY)
+    }
+
+    // An entry enters the figures of a series and of a window with these edges, if it is for them. An entry beyond the
+    // limits of any day, or one for which the sums have no room, changes nothing.
+    pub fn enter_in(&mut self, e: &Entry, series: u8, edges: (i64, i64))
+        ensures { λ _. ⌜ now (self .exit) ≡ cond (concerns series edges (now (e .entry)) && (sound (now (e .entry)) && roomy (now (self .entry)))) (marked (now (e .entry) .kind) (now (e .entry) .stamp) (now (self .entry))) (now (self .entry)) ⌝ }
+    {
+        if concerns(e, series, edges) & (is_sound(e) & self.has_room()) {
             self.enter(e);
         }
     }

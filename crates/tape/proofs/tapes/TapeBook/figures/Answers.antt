@@ -1,6 +1,5 @@
 use Prim.Native.Nat.{ℕ, _-_, _≤_}
 use mathlib.Core.Path.{_≡_, sym, ap, _∙_, subst}
-use mathlib.Core.Bool.{true}
 use native.Mathlib.Omega.{arith}
 use lib.ListN.{length, take}
 use Rattle.std.specs.shelf.Lists.{folded}
@@ -8,7 +7,6 @@ use Rattle.std.proofs.shelf.Lists.{length-take-le}
 use Rattle.book.specs.Bounds.{bounded}
 use Rattle.book.specs.Figures.{empty, entered-in, sound, values}
 use Rattle.book.specs.Records.{every, figures-of}
-use Rattle.book.specs.declared.marks.Values.{Values}
 use Rattle.book.proofs.Folds.{bounded-fold, every-sound}
 use Rattle.tape.proofs.tapes.TapeBook.figures.Needs as need
 
