@@ -17,11 +17,6 @@ price-bound v h = grind (arith, ints)
 pub lots-bound : (n : ℤ) → lots-lawful n ≡ true → natAbs n ≤ 100000
 lots-bound n h = grind (arith, ints)
 
--- lots are not negative
-pub lots-some : (n : ℤ) → lots-lawful n ≡ true → pos (natAbs n) ≡ n
-lots-some (pos n) h = refl
-lots-some (negsuc n) h = absurd (true≢false (sym h))
-
 abs-times : (a : ℤ) (t : ℕ) → natAbs (a *ℤ pos t) ≡ natAbs a * t
 abs-times (pos a) t = refl
 abs-times (negsuc a) t = omega (arith, ints)

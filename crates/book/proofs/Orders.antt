@@ -17,6 +17,3 @@ lt-from a b e = grind (arith, ints)
 
 pub over-from : (a b : ℤ) → leZ a b ≡ false → b <ℤ a
 over-from a b e = grind (arith, ints)
-
-pub over-test : (a b : ℤ) → b <ℤ a → leZ a b ≡ false
-over-test a b h = grind (arith, ints)

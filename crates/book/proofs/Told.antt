@@ -15,7 +15,7 @@ use Rattle.std.proofs.shelf.Elements.{all-append, all-push, all-weaker, kept-by
 use Rattle.std.proofs.shelf.Lists.{append-assoc, append-nil}
 use Rattle.std.proofs.shelf.Signed.{ints}
 use Rattle.std.proofs.shelf.Tests.{and-cases, and-left, cases-bool, cond-both, cond-false, cond-true, both-ways, true≢false}
-use Rattle.book.specs.Evidence.{Decides, Evidence, LastOf, auction-price, lots-of, no-leg, own-entries, pick, quote-sides, spread-value, total, trade-price, trades, worth-of}
+use Rattle.book.specs.Evidence.{StandsLast, Evidence, LastOf, auction-price, lots-of, no-leg, own-entries, pick, quote-sides, spread-value, total, trade-price, trades, worth-of}
 use Rattle.book.specs.Figures.{concerns, empty, entered-in, is-series, latest, marked}
 use Rattle.book.specs.Ledgers.{entered}
 use Rattle.book.specs.Records.{figures-of, recorded}
@@ -60,11 +60,11 @@ passed-by picked xs e (Some o) none r = record {
 }
 
 -- an entry with as late a stamp as any before it is last
-comes-last : {V : Type 0} (picked : Entry → Option V) (xs : List Entry) (e : Entry) (v : V) → picked e ≡ Some v → All (λ x. isSome (picked x) ≡ true → x .stamp ≤ℤ e .stamp) xs → Decides picked (xs ++ (e ∷ [])) (record { stamp = e .stamp; value = v })
+comes-last : {V : Type 0} (picked : Entry → Option V) (xs : List Entry) (e : Entry) (v : V) → picked e ≡ Some v → All (λ x. isSome (picked x) ≡ true → x .stamp ≤ℤ e .stamp) xs → StandsLast picked (xs ++ (e ∷ [])) (record { stamp = e .stamp; value = v })
 comes-last picked xs e v has before = record { front = xs; entry = e; rest = []; stands = refl; value = has; stamp = refl; before = before; since = tt }
 
 -- an entry with an earlier stamp than the last one leaves it
-comes-late : {V : Type 0} (picked : Entry → Option V) (xs : List Entry) (e : Entry) (o : Last V) → e .stamp <ℤ o .stamp → Decides picked xs o → Decides picked (xs ++ (e ∷ [])) o
+comes-late : {V : Type 0} (picked : Entry → Option V) (xs : List Entry) (e : Entry) (o : Last V) → e .stamp <ℤ o .stamp → StandsLast picked xs o → StandsLast picked (xs ++ (e ∷ [])) o
 comes-late picked xs e o early r = record {
   front = r .front;
   entry = r .entry;
@@ -77,7 +77,7 @@ comes-late picked xs e o early r = record {
 }
 
 -- no entry for the figure has a later stamp than the last one
-none-later : {V : Type 0} (picked : Entry → Option V) (xs : List Entry) (o : Last V) (t : ℤ) → (o .stamp) ≤ℤ t → Decides picked xs o → All (λ x. isSome (picked x) ≡ true → x .stamp ≤ℤ t) xs
+none-later : {V : Type 0} (picked : Entry → Option V) (xs : List Entry) (o : Last V) (t : ℤ) → (o .stamp) ≤ℤ t → StandsLast picked xs o → All (λ x. isSome (picked x) ≡ true → x .stamp ≤ℤ t) xs
 none-later picked xs o t up r =
     let P : Entry → Type 0 = λ x. isSome (picked x) ≡ true → x .stamp ≤ℤ t in
     let own : r .entry .stamp ≤ℤ t = subst (λ (z : ℤ). z ≤ℤ t) (sym (r .stamp)) up in

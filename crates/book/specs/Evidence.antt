@@ -57,7 +57,7 @@ pick has s x e = cond (concerns s x e) (has (e .kind)) None
 
 -- an entry taken for the figure, with its stamp and value: none for it that came before has a later stamp, and none that
 -- came after has as late a one
-pub record Decides {V : Type 0} (picked : Entry → Option V) (es : List Entry) (o : Last V) : Type 0 where
+pub record StandsLast {V : Type 0} (picked : Entry → Option V) (es : List Entry) (o : Last V) : Type 0 where
   pub front : List Entry
   pub entry : Entry
   pub rest : List Entry
@@ -70,7 +70,7 @@ pub record Decides {V : Type 0} (picked : Entry → Option V) (es : List Entry) 
 -- nothing is last where no entry was taken for the figure
 abbrev pub LastOf : {V : Type 0} → (Entry → Option V) → List Entry → Option (Last V) → Type 0
 LastOf picked es None = All (λ e. picked e ≡ None) es
-LastOf picked es (Some o) = Decides picked es o
+LastOf picked es (Some o) = StandsLast picked es o
 
 -- ---- sums
 

@@ -68,7 +68,8 @@ fn compare<A: Book, B: Book>(
     Ok(same)
 }
 
-fn run(rt: &LibcRuntime) -> Result<(), AnyError> {
+// The day of the input, if it has one, and the entries in their order.
+fn read(rt: &LibcRuntime) -> Result<(Option<Day>, Vec<Entry>), AnyError> {
     let heap = rt.alloc();
     let mut day: Option<Day> = None;
     let mut entries: Vec<Entry> = Vec::new(heap);
@@ -80,6 +81,23 @@ fn run(rt: &LibcRuntime) -> Result<(), AnyError> {
             entries.push(entry_of(line.as_str())?)?;
         }
     }
+    Ok((day, entries))
+}
+
+// The figures of every series and window, and whether the books agree in all of them.
+fn compare_all<A: Book, B: Book>(rt: &impl Print, one: &A, other: &B) -> Result<bool, AnyError> {
+    let mut all = true;
+    for series in 0..32u8 {
+        for window in 1..14u8 {
+            let same = compare(rt, one, other, series, window)?;
+            all = all & same;
+        }
+    }
+    Ok(all)
+}
+
+fn run(rt: &LibcRuntime) -> Result<(), AnyError> {
+    let (day, entries) = read(rt)?;
     let Some(day) = day else {
         return Err("no day line".into());
     };
@@ -99,18 +117,9 @@ fn run(rt: &LibcRuntime) -> Result<(), AnyError> {
     let mut tape = Tape::new(lawful, &mut slots);
     let mut board = Board::new(lawful, PLACES);
     let (on_tape, on_board) = take_both(&mut tape, &mut board, &entries);
-    println!(
-        rt,
-        "entries {} tape {on_tape} board {on_board}",
-        entries.len()
-    )?;
-    let mut all = true;
-    for series in 0..32u8 {
-        for window in 1..14u8 {
-            let same = compare(rt, &tape, &board, series, window)?;
-            all = all & same;
-        }
-    }
+    let count = entries.len();
+    println!(rt, "entries {count} tape {on_tape} board {on_board}")?;
+    let all = compare_all(rt, &tape, &board)?;
     println!(rt, "{}", if all { "equal" } else { "differ" })?;
     Ok(())
 }
