@@ -1,5 +1,5 @@
 // The tape.
-ghost use Prim.Native.Nat.{_≤_, min};
+ghost use Prim.Native.Nat.{_+_, _<_, _≤_, min};
 ghost use mathlib.Core.Bool.{true};
 ghost use mathlib.Core.Path.{_≡_};
 ghost use lib.ListN.{length, take};
@@ -40,6 +40,14 @@ fn fitting(places: usize) -> usize
     places.min(MOST)
 }
 
+// The count after one entry more.
+fn one_more(count: usize) -> usize
+    requires { ⌜ count < 30000 ⌝ }
+    ensures { λ r. ⌜ r ≡ count + 1 ⌝ }
+{
+    count + 1
+}
+
 impl<'a> Tape<'a> {
     // An empty tape for the day: it has as many places as it is lent, and at most 30,000.
     pub fn new(day: LawfulDay, slots: &'a mut [Entry]) -> Tape<'a>
@@ -60,7 +68,7 @@ pub impl Book for Tape<'_> as TapeBook {
         let capacity = fitting(self.slots.len());
         admit(&self.day, self.count, capacity, &entry)?;
         self.slots[self.count] = entry;
-        self.count += 1;
+        self.count = one_more(self.count);
         Ok(())
     }
 
