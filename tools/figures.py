@@ -1,6 +1,6 @@
 #!/usr/bin/env python3
 """What the program `figures` should print, worked out from docs/RULES.md in another way: every entry taken stays in a list,
-and each question filters it. Standard input to standard output; crates/figures/stdout was made by it."""
+and each question filters it. Standard input to standard output; on crates/figures/stdin it prints crates/figures/stdout."""
 import sys
 
 PLACES = 256

@@ -1,6 +1,6 @@
 #!/usr/bin/env python3
 """What the program `round` should print, worked out from docs/RULES.md in another way: a walk over whole numbers to the
-next lawful one, with exact fractions. Standard input to standard output; crates/round/stdout was made by it."""
+next lawful one, with exact fractions. Standard input to standard output; on crates/round/stdin it prints crates/round/stdout."""
 import math
 import re
 import sys
