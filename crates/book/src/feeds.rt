@@ -11,9 +11,9 @@ use crate::entries::Entry;
 // Hands the entries to the book in their order, and tells how many it took. What a new book then answers is told by the
 // entries taken.
 pub fn take_all<B: Book>(book: &mut B, entries: &[Entry]) -> usize
-    ensures count { result ≡ length (taken (meaning book.old) entries.now) }
-    ensures after { meaning book.new ≡ after_all (meaning book.old) entries.now }
-    ensures evidence { (d : Day) (k : ℕ) → meaning book.old ≡ fresh d k → Evidence (meaning book.new) (taken (fresh d k) entries.now) }
+    ensures count { result ≡ length (taken (B.meaning book.old) entries.now) }
+    ensures after { B.meaning book.new ≡ after_all (B.meaning book.old) entries.now }
+    ensures evidence { (d : Day) (k : ℕ) → B.meaning book.old ≡ fresh d k → Evidence (B.meaning book.new) (taken (fresh d k) entries.now) }
 {
     let mut count = 0;
     for e in entries {

@@ -1,4 +1,6 @@
 // A book of one trading day: what it takes, what it answers, and what that means. Nothing here allocates.
+#![tactic(auto)]
+
 pub mod books;
 pub mod days;
 pub mod entries;

@@ -1,6 +1,8 @@
 // Runs one small day, read from standard input, on both makes: a house with even ladders over a board, and a house with
 // stepped ladders over a tape. It prints side by side what both answer to every call, and then to the question for the
 // price of every series in both editions.
+#![tactic(auto)]
+
 mod reading;
 mod showing;
 

@@ -1,5 +1,7 @@
 // Reads one small day and its entries from standard input, enters them into a tape and a board, and prints the figures of
 // both side by side.
+#![tactic(auto)]
+
 mod reading;
 
 use crate::reading::{day_of, entry_of};

@@ -1,5 +1,7 @@
 // The settlement house: it lists series, rings the bells, and takes or refuses all that can become evidence. The book that
 // keeps the entries is lent to each call, and may be of any make. Nothing here allocates.
+#![tactic(auto)]
+
 pub mod answers;
 pub mod calls;
 pub mod faults;

@@ -1,4 +1,6 @@
 // Small cases of the house, worked out by hand from the rules.
+#![tactic(auto)]
+
 #[cfg(test)]
 mod tests {
     // What the cases share: a day, a house over two ladders, listings and entries in short form.

@@ -1,4 +1,6 @@
 // Ladders of lawful prices, and rounding to them. Nothing here allocates.
+#![tactic(auto)]
+
 pub mod bands;
 pub mod describing;
 pub mod faults;

@@ -19,7 +19,7 @@ pub struct Rounded {
 
 // Whether a price lies within the limit and on its ladder.
 pub fn is_lawful<S: LadderSet>(set: &S, ladder: u8, price: i64) -> bool
-    ensures { result ≡ (within price && lawful set.now ladder price) }
+    ensures { result ≡ (within price && S.lawful set.now ladder price) }
 {
     match set.below(ladder, price) {
         Some(p) => p == price,
@@ -74,8 +74,8 @@ fn closer(fraction: (i64, u32), low: i64, high: i64) -> i64
 // The fraction (numerator, denominator) rounded to the lawful prices of a ladder: nothing for a denominator of zero or a
 // fraction beyond the price limit.
 pub fn round<S: LadderSet>(set: &S, ladder: u8, fraction: (i64, u32)) -> Option<Rounded>
-    ensures rule { MatchOption result (inside fraction.0 fraction.1 ≡ false) (λ p. (inside fraction.0 fraction.1 ≡ true) × Rounds (lawful set.now ladder) fraction.0 fraction.1 p) }
-    ensures value { result ≡ rounded (lawful set.now ladder) fraction.0 fraction.1 }
+    ensures rule { MatchOption result (inside fraction.0 fraction.1 ≡ false) (λ p. (inside fraction.0 fraction.1 ≡ true) × Rounds (S.lawful set.now ladder) fraction.0 fraction.1 p) }
+    ensures value { result ≡ rounded (S.lawful set.now ladder) fraction.0 fraction.1 }
     ensures close { IfSome result (λ p. p.above ≤ℤ (p.below +ℤ pos 1000000)) }
 {
     if !is_inside(fraction) {
@@ -93,8 +93,8 @@ pub fn round<S: LadderSet>(set: &S, ladder: u8, fraction: (i64, u32)) -> Option<
 
 // The lawful price closest to a fraction; of two equally close, the larger.
 pub fn nearest<S: LadderSet>(set: &S, ladder: u8, fraction: (i64, u32)) -> Option<i64>
-    ensures rule { MatchOption result (inside fraction.0 fraction.1 ≡ false) (λ p. (inside fraction.0 fraction.1 ≡ true) × Nearest (lawful set.now ladder) fraction.0 fraction.1 p) }
-    ensures value { result ≡ nearest_price (lawful set.now ladder) fraction.0 fraction.1 }
+    ensures rule { MatchOption result (inside fraction.0 fraction.1 ≡ false) (λ p. (inside fraction.0 fraction.1 ≡ true) × Nearest (S.lawful set.now ladder) fraction.0 fraction.1 p) }
+    ensures value { result ≡ nearest_price (S.lawful set.now ladder) fraction.0 fraction.1 }
 {
     match round(set, ladder, fraction) {
         Some(r) => Some(r.nearest),

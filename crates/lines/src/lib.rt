@@ -1,4 +1,6 @@
 // Lines of text: calls as they are written, and the reader of them.
+#![tactic(auto)]
+
 pub mod calls;
 mod classes;
 pub mod faults;

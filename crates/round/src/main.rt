@@ -1,5 +1,7 @@
 // Rounds prices for a clerk. A line of input is a ladder, a colon, and numbers or fractions to round on it; the ladder is
 // a tick, or bands as tick, start, tick, start, tick.
+#![tactic(auto)]
+
 use ladders::bands::Band;
 use ladders::faults::LadderFault;
 use ladders::rounding::round;

@@ -1,4 +1,6 @@
 // Two different runs for each law, the first over an even set on a board, the second over a stepped set on a tape.
+#![tactic(auto)]
+
 #[cfg(test)]
 mod tests {
     use book::days::Day;

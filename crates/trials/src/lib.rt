@@ -1,4 +1,6 @@
 // Small cases, tried on both makes of book.
+#![tactic(auto)]
+
 #[cfg(test)]
 mod tests {
     use board::boards::Board;

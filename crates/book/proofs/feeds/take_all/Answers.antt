@@ -4,7 +4,7 @@ use Rattle.book.specs.Takings.{after_all, taken}
 use Rattle.book.proofs.Folds.{blank}
 use Rattle.book.proofs.Handed.{counted_refused, counted_taken, handed_more, told}
 use Rattle.book.proofs.feeds.take_all.Goals as goal
-use Rattle.book.proofs.feeds.take_all.Goals.{then-is-ok, else-is-ok}
+use Rattle.book.proofs.feeds.take_all.Goals.{then-is_ok, else-is_ok}
 
 pub loop-e-preserved : goal.loop-e-preserved
 loop-e-preserved g c =
@@ -17,11 +17,11 @@ loop-e-preserved g c =
     let so_far = c.loop-e.invariant.0 in
     let count = c.loop-e.invariant.1 in
     let few = c.loop-e.invariant.2 in
-    let reply = sym (c.is-ok.ensures.value ∙ ap is_ok c.take.ensures.answer) in
+    let reply = sym (c.is_ok.ensures.value ∙ ap is_ok c.take.ensures.answer) in
     let handed = handed_more m now es i blank (g.B.Book.meaning c.take.new.self) here so_far c.take.ensures.after in
-    elim c.if-is-ok.branch [
-      | then-is-ok w ↦ (handed, w.count-is ∙ counted_taken m now es i blank n here so_far count (reply ∙ w.if-is-ok.true), omega (arith, w.count-is))
-      | else-is-ok w ↦ (handed, w.count-is ∙ counted_refused m now es i blank n here so_far count (reply ∙ w.if-is-ok.false), omega (arith, w.count-is))
+    elim c.if-is_ok.branch [
+      | then-is_ok w ↦ (handed, w.count-is ∙ counted_taken m now es i blank n here so_far count (reply ∙ w.if-is_ok.true), omega (arith, w.count-is))
+      | else-is_ok w ↦ (handed, w.count-is ∙ counted_refused m now es i blank n here so_far count (reply ∙ w.if-is_ok.false), omega (arith, w.count-is))
     ]
 
 pub returns : goal.returns

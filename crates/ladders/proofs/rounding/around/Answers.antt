@@ -15,10 +15,10 @@ returns c =
     let fits : SFits w64 n = search rules in
     let same : to_z w64 (of_z w64 n) ≡ n = to_z-of_z w64 n fits in
     let mirror : to_z w64 (of_z w64 (pos 0 -ℤ to_z w64 (of_z w64 n))) ≡ neg_ℤ n = omega (arith, ints) in
-    let low = c.div-euclid.ensures ∙ ap (int_div_euclid _) whole ∙ ap (λ m. int_div_euclid m (pos d)) same in
-    let high = c.div-euclid-2.ensures ∙ ap (int_div_euclid _) whole ∙ ap (λ m. int_div_euclid m (pos d)) mirror in
+    let low = c.div_euclid.ensures ∙ ap (int_div_euclid _) whole ∙ ap (λ m. int_div_euclid m (pos d)) same in
+    let high = c.div_euclid-2.ensures ∙ ap (int_div_euclid _) whole ∙ ap (λ m. int_div_euclid m (pos d)) mirror in
     let above = within_range (ceiling n d) (ceiling_within n d c.requires) in
-    let fl : SFits w64 c.div-euclid.result = search rules in (
-      to_z-of_z w64 c.div-euclid.result fl ∙ low,
+    let fl : SFits w64 c.div_euclid.result = search rules in (
+      to_z-of_z w64 c.div_euclid.result fl ∙ low,
       omega (arith, ints),
     )

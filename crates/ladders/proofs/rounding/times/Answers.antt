@@ -14,10 +14,10 @@ factors c =
 small : (c : goal.After-from-2) → nat_abs (c.args.price *ℤ pos c.args.d) < 2 ^ 96
 small c = times_bound c.args.price c.args.d (abs_fits c.args.price c.ranges.price) c.ranges.d.fits
 
-pub overflow-mul-result : goal.overflow-mul-result
-overflow-mul-result c = subst (SFits w128) (sym (factors c)) (bound_fits _ (small c))
+pub overflow_mul-result : goal.overflow_mul-result
+overflow_mul-result c = subst (SFits w128) (sym (factors c)) (bound_fits _ (small c))
 
 pub returns : goal.returns
 returns c =
-    let same = to_z-of_z w128 _ (overflow-mul-result c) ∙ factors c in
+    let same = to_z-of_z w128 _ (overflow_mul-result c) ∙ factors c in
     record { value = same; bound = subst (λ (z : ℤ). nat_abs z < 2 ^ 96) (sym same) (small c) }

@@ -6,17 +6,17 @@ use Rattle.ladders.specs.Bands.{band, described, later_fault}
 use Rattle.ladders.proofs.Checked.{faulty_band, sound_band, one_more}
 use Rattle.ladders.proofs.stepping.checked_steps.Goals as goal
 
-pub returns-in-err-step : goal.returns-in-err-step
-returns-in-err-step c =
-    let p = err_from_is_err_and c.from-residual.result c.from-residual.ensures.1 in
-    rw (p.1, p.2) (faulty_band _ _ c.args.rest.now c.loop-i.i _ _ c.loop-i-test.true c.loop-i.invariant.2 c.in-err-step.ensures)
+pub returns-in_err-step : goal.returns-in_err-step
+returns-in_err-step c =
+    let p = err_from_is_err_and c.from_residual.result c.from_residual.ensures.1 in
+    rw (p.1, p.2) (faulty_band _ _ c.args.rest.now c.loop-i.i _ _ c.loop-i-test.true c.loop-i.invariant.2 c.in_err-step.ensures)
 
 pub loop-i-preserved : goal.loop-i-preserved
 loop-i-preserved c =
-    let step = c.in-ok-step.step in
+    let step = c.in_ok-step.step in
     let i = c.loop-i.i in
     let rest = c.args.rest.now in
-    let sound = c.in-ok-step.ensures in
+    let sound = c.in_ok-step.ensures in
     let fits : SFits w64 step.start = search rules in
     let start = to_z-of_z w64 step.start fits in
     let within : i < length c.loop-i.later = omega arith in (

@@ -12,8 +12,8 @@ loop-e-preserved c =
     let f = c.loop-e.figures in
     let e = sound_at es i c.loop-e-test.true c.requires.sound in
     let room = room_at c.args.series c.args.edges es i f c.loop-e.auto.e-index-end c.requires.few c.requires.sound c.loop-e.invariant in
-    entered_at c.args.series c.args.edges es i f c.enter-in.new.self c.loop-e-test.true c.loop-e.invariant
-    (c.enter-in.ensures ∙ enters c.args.series c.args.edges f _ e.0 e.1 room)
+    entered_at c.args.series c.args.edges es i f c.enter_in.new.self c.loop-e-test.true c.loop-e.invariant
+    (c.enter_in.ensures ∙ enters c.args.series c.args.edges f _ e.0 e.1 room)
 
 pub returns : goal.returns
 returns c =

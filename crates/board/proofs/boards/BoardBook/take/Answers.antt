@@ -10,21 +10,21 @@ use Rattle.book.proofs.Taking.{admitted, refused_stays, same_reply}
 use Rattle.board.specs.Cells.{cell, tabled}
 use Rattle.board.proofs.boards.BoardBook.take.Goals as goal
 
-pub returns-in-err-admit : goal.returns-in-err-admit
-returns-in-err-admit c =
+pub returns-in_err-admit : goal.returns-in_err-admit
+returns-in_err-admit c =
     let b = c.args.self.now in
     let e = c.args.entry in
     let m = tabled b.day b.capacity b.count b.table.cells in
-    let p = err_from_is_err_and c.from-residual.result c.from-residual.ensures.1 in
-    let said = c.in-err-admit.ensures ∙ same_reply m _ _ e c.from.ensures c.from-2.ensures in
+    let p = err_from_is_err_and c.from_residual.result c.from_residual.ensures.1 in
+    let said = c.in_err-admit.ensures ∙ same_reply m _ _ e c.from.ensures c.from-2.ensures in
     record { answer = p.1 ∙ ap Err p.2 ∙ said; after = refused_stays m e _ said }
 
-pub enter-all-requires : goal.enter-all-requires
-enter-all-requires c =
+pub enter_all-requires : goal.enter_all-requires
+enter_all-requires c =
     let b = c.args.self.now in
     let e = c.args.entry in
     let m = tabled b.day b.capacity b.count b.table.cells in
-    let a = admitted m e (c.in-ok-admit.ensures ∙ same_reply m _ _ e c.from.ensures c.from-2.ensures) in
+    let a = admitted m e (c.in_ok-admit.ensures ∙ same_reply m _ _ e c.from.ensures c.from-2.ensures) in
     let room = b.room in
     let most = b.most in
     let few : b.count ≤ 30000 = omega arith in
@@ -34,35 +34,29 @@ enter-all-requires c =
       room = λ s w. small_from b.count (cell b.table.cells s w) (b.bounds (s, w)) few;
     }
 
-pub invariant-of-self-2 : goal.invariant-of-self-2
-invariant-of-self-2 c =
+pub invariant_of-self-2 : goal.invariant_of-self-2
+invariant_of-self-2 c =
     let b = c.args.self.now in
     let e = c.args.entry in
     let m = tabled b.day b.capacity b.count b.table.cells in
-    let a = admitted m e (c.in-ok-admit.ensures ∙ same_reply m _ _ e c.from.ensures c.from-2.ensures) in
+    let a = admitted m e (c.in_ok-admit.ensures ∙ same_reply m _ _ e c.from.ensures c.from-2.ensures) in
     let room = b.room in
     let free = a.place in
-    let kind = allowed_kind b.day e a.lawful in (
-      b.lawful,
-      (
-        b.most,
-        (
-          omega arith,
-          (
-            λ p. ap (λ f. bounded (b.count + 1) (values f)) (c.enter-all.ensures p.0 p.1)
-                ∙ bounded_entered b.count p.0 (edges b.day p.1) (cell b.table.cells p.0 p.1) e kind (b.bounds p),
-            tt,
-          ),
-        ),
-      ),
-    )
+    let kind = allowed_kind b.day e a.lawful in
+    record {
+      lawful = b.lawful;
+      most = b.most;
+      room = omega arith;
+      bounds = λ p. ap (λ f. bounded (b.count + 1) (values f)) (c.enter_all.ensures p.0 p.1)
+          ∙ bounded_entered b.count p.0 (edges b.day p.1) (cell b.table.cells p.0 p.1) e kind (b.bounds p);
+    }
 
 pub returns : goal.returns
 returns c =
     let b = c.args.self.now in
     let e = c.args.entry in
     let m = tabled b.day b.capacity b.count b.table.cells in
-    let said = c.in-ok-admit.ensures ∙ same_reply m _ _ e c.from.ensures c.from-2.ensures in
-    let swept : tabled b.day b.capacity (b.count + 1) c.enter-all.new.self.cells ≡ grown m e =
-    λ i. record { day = b.day; capacity = b.capacity; count = b.count + 1; figures = λ s w. c.enter-all.ensures s w i } in
+    let said = c.in_ok-admit.ensures ∙ same_reply m _ _ e c.from.ensures c.from-2.ensures in
+    let swept : tabled b.day b.capacity (b.count + 1) c.enter_all.new.self.cells ≡ grown m e =
+    λ i. record { day = b.day; capacity = b.capacity; count = b.count + 1; figures = λ s w. c.enter_all.ensures s w i } in
     record { answer = said; after = swept ∙ sym (admitted m e said).grows }

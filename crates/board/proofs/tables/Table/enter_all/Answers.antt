@@ -5,8 +5,8 @@ use Rattle.book.proofs.Ranges.{allowed_kind, allowed_series, allowed_stamp}
 use Rattle.board.proofs.Sweeps.{sweep_none, sweep_room, sweep_more, sweep_all}
 use Rattle.board.proofs.tables.Table.enter_all.Goals as goal
 
-pub enter-at-requires : goal.enter-at-requires
-enter-at-requires c =
+pub enter_at-requires : goal.enter_at-requires
+enter_at-requires c =
     let d = c.args.day.now in
     let e = c.args.e.now in
     let w = c.loop-window.window in
@@ -25,8 +25,8 @@ loop-window-init c = sweep_none c.args.day.now c.args.e.now _ c.args.self.now.ce
 
 pub loop-window-preserved : goal.loop-window-preserved
 loop-window-preserved c =
-    sweep_more c.args.day.now c.args.e.now _ c.loop-window.window c.edges.result c.args.self.now.cells c.loop-window.self.cells c.enter-at.new.self.cells
-    c.loop-window.auto.window c.edges.ensures c.loop-window.invariant c.enter-at.ensures
+    sweep_more c.args.day.now c.args.e.now _ c.loop-window.window c.edges.result c.args.self.now.cells c.loop-window.self.cells c.enter_at.new.self.cells
+    c.loop-window.auto.window c.edges.ensures c.loop-window.invariant c.enter_at.ensures
 
 pub returns : goal.returns
 returns c =

@@ -4,8 +4,8 @@ use Rattle.book.specs.Figures.{latest}
 use Rattle.book.proofs.Limits.{lots_bound}
 use Rattle.book.proofs.marks.Figures.add_trade.Goals as goal
 
-pub overflow-add-self-2 : goal.overflow-add-self-2
-overflow-add-self-2 c =
+pub overflow_add-self-2 : goal.overflow_add-self-2
+overflow_add-self-2 c =
     let few = c.worth.ensures.bound in
     let room = c.requires.room.money in
     omega (arith, ints)
