@@ -1,5 +1,5 @@
 -- Each series and window has a place of its own in the table.
-use Rattle.std.proofs.Common.{◌≡◌, ℕ, ◌-◌, ◌<◌, ◌≤◌, true, false, cond, ◌&&◌, eqb, leb, ◌≢◌, List, length, get_or, set, replicate, ℤ, sym, refl, ap, ◌∙◌, ⊎_elim, arith}
+use Rattle.std.proofs.Common.{◌≡◌, ℕ, ◌<◌, ◌≤◌, true, false, cond, ◌&&◌, eqb, leb, ◌≢◌, List, length, get_or, set, replicate, ℤ, sym, refl, ap, ◌∙◌, ⊎_elim, arith}
 use Rattle.std.proofs.lemmas.List.{get_or-set_same, get_or-set_other, get_or-replicate}
 use Rattle.std.proofs.lemmas.Bool.{and_parts, and_from, and_left, and_right, cases_Bool, cases_eq, cond-true, cond-false, cond_both, eq-eqb, eqb-true, ne_eqb, leb-true}
 use Rattle.book.specs.Figures.{empty, entered_in}

@@ -39,7 +39,7 @@ fn may_have(family: Family, kind: Kind) -> bool
 
 // A side of a quote is on its ladder, or is missing.
 fn is_side_lawful<L: LadderSet>(set: &L, ladder: u8, side: Option<i64>) -> bool
-    ensures { result ≡ side_on_ladder (lawful set.now ladder) side }
+    ensures { result ≡ side_on_ladder (L.lawful set.now ladder) side }
 {
     match side {
         Some(price) => is_lawful(set, ladder, price),
@@ -49,7 +49,7 @@ fn is_side_lawful<L: LadderSet>(set: &L, ladder: u8, side: Option<i64>) -> bool
 
 // Whether the prices of an entry are on the ladder.
 fn is_on_ladder<L: LadderSet>(set: &L, ladder: u8, kind: Kind) -> bool
-    ensures { result ≡ kind_on_ladder (lawful set.now ladder) kind }
+    ensures { result ≡ kind_on_ladder (L.lawful set.now ladder) kind }
 {
     match kind {
         Kind::Trade { price, .. } => is_lawful(set, ladder, price),
@@ -69,7 +69,7 @@ fn check_entry<L: LadderSet>(
     entry: &Entry,
     terms: &Terms,
 ) -> Result<(), HouseFault>
-    ensures { result ≡ entry_check (lawful set.now) day.now entry.now terms.now }
+    ensures { result ≡ entry_check (L.lawful set.now) day.now entry.now terms.now }
 {
     if !is_allowed(day, entry) {
         return Err(BookFault::BeyondLimits.into());
@@ -118,7 +118,7 @@ impl<L: LadderSet> House<L> {
 
     // The terms under which a series may be listed now.
     fn admitted(&self, listing: &Listing) -> Result<Terms, HouseFault>
-        ensures { result ≡ listed_terms (size self.now.set) listing.now (state self.now) }
+        ensures { result ≡ listed_terms (L.size self.now.set) listing.now (state self.now) }
     {
         let number = self.listed.count();
         if !self.phase.is_listing() {
@@ -132,8 +132,8 @@ impl<L: LadderSet> House<L> {
 
     // Lists a series, and tells its number.
     pub fn list(&mut self, listing: Listing) -> Result<u8, HouseFault>
-        ensures answer { result ≡ list_answer (size self.old.set) listing (state self.old) }
-        ensures after { state self.new ≡ list_after (size self.old.set) listing (state self.old) }
+        ensures answer { result ≡ list_answer (L.size self.old.set) listing (state self.old) }
+        ensures after { state self.new ≡ list_after (L.size self.old.set) listing (state self.old) }
         ensures set { self.new.set ≡ self.old.set }
     {
         let number = self.listed.count();
@@ -158,7 +158,7 @@ impl<L: LadderSet> House<L> {
 
     // Whether the house lets the entry go to a book of the day.
     fn pass(&self, day: &Day, entry: &Entry) -> Result<(), HouseFault>
-        ensures { result ≡ entry_passed (lawful self.now.set) day.now entry.now (state self.now) }
+        ensures { result ≡ entry_passed (L.lawful self.now.set) day.now entry.now (state self.now) }
     {
         if !self.phase.is_trading() {
             return Err(HouseFault::WrongPhase);

@@ -23,7 +23,7 @@ fn wide(value: Option<i32>) -> Option<i64>
 
 // Nearest of the middle of the last quote, if that has both sides.
 fn quoted<L: LadderSet>(set: &L, ladder: u8, quote: Option<Sides>) -> Option<i64>
-    ensures { result ≡ quoted (lawful set.now ladder) quote }
+    ensures { result ≡ quoted (L.lawful set.now ladder) quote }
 {
     let Some(sides) = quote else {
         return None;
@@ -37,13 +37,13 @@ fn quoted<L: LadderSet>(set: &L, ladder: u8, quote: Option<Sides>) -> Option<i64
 // Nearest of money over lots.
 fn average<L: LadderSet>(set: &L, ladder: u8, money: i64, lots: i64) -> Option<i64>
     requires { unsigned_abs lots ≤ 3000000000 }
-    ensures { result ≡ average (lawful set.now ladder) money lots }
+    ensures { result ≡ average (L.lawful set.now ladder) money lots }
 {
     nearest(set, ladder, (money, lots.unsigned_abs() as u32))
 }
 
 fn nearest_theory<L: LadderSet>(set: &L, ladder: u8, theory: Option<i64>) -> Option<i64>
-    ensures { result ≡ nearest_theory (lawful set.now ladder) theory }
+    ensures { result ≡ nearest_theory (L.lawful set.now ladder) theory }
 {
     match theory {
         Some(v) => nearest(set, ladder, (v, 1)),
@@ -52,7 +52,7 @@ fn nearest_theory<L: LadderSet>(set: &L, ladder: u8, theory: Option<i64>) -> Opt
 }
 
 fn above_theory<L: LadderSet>(set: &L, ladder: u8, theory: Option<i64>) -> Option<i64>
-    ensures { result ≡ above_theory (lawful set.now ladder) theory }
+    ensures { result ≡ above_theory (L.lawful set.now ladder) theory }
 {
     match theory {
         Some(v) => set.above(ladder, v),
@@ -93,7 +93,7 @@ pub(crate) fn find<L: LadderSet>(
     requires series { lawful_series number series.now ≡ true }
     requires reference { InReachBefore number reference }
     requires values { bounded 30000 values.now ≡ true }
-    ensures { result ≡ finds (lawful set.now series.now.terms.ladder) reference series.now values.now step }
+    ensures { result ≡ finds (L.lawful set.now series.now.terms.ladder) reference series.now values.now step }
 {
     let ladder = series.terms.ladder;
     match step {

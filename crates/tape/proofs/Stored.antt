@@ -1,5 +1,5 @@
 -- What a tape knows of the entries that it stores: the first n of its places.
-use Rattle.std.proofs.Common.{◌≡◌, ℕ, ◌+◌, ◌-◌, ◌<◌, ◌≤◌, min, true, List, length, get_or, take, set, ℤ, Ok, fold, sym, ap, ◌∙◌, subst, arith}
+use Rattle.std.proofs.Common.{◌≡◌, ℕ, ◌+◌, ◌<◌, ◌≤◌, min, true, List, length, get_or, take, set, ℤ, Ok, fold, sym, ap, ◌∙◌, subst, arith}
 use Rattle.std.proofs.lemmas.List.{length-take-le, take_more_set, length-set}
 use Rattle.std.proofs.lemmas.List.Sums.{fold_more}
 use Rattle.book.specs.Days.{is_lawful}

@@ -1,4 +1,4 @@
-use Rattle.std.proofs.Common.{length, take, is_ok, sym, ap, ◌∙◌, arith}
+use Rattle.std.proofs.Common.{length, is_ok, sym, ap, ◌∙◌, arith}
 use Rattle.std.proofs.lemmas.List.{take_all}
 use Rattle.book.specs.Takings.{after_all, taken}
 use Rattle.book.proofs.Folds.{blank}

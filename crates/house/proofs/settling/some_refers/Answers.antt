@@ -9,19 +9,19 @@ use Rattle.house.proofs.settling.some_refers.Goals as goal
 pub returns-then-refers : goal.returns-then-refers
 returns-then-refers c =
     let places = row c.args.family c.args.choice in
-    let there = sym (c.place-at.ensures.value ∙ ap (at places) c.from.ensures) ∙ c.in-Some.is in
+    let there = sym (c.place_at.ensures.value ∙ ap (at places) c.from.ensures) ∙ c.in-Some.is in
     refers_here places c.loop-position.position (some_refers places) c.loop-position.invariant c.in-Some.place there c.if-refers.ensures
 
 pub returns-in-None : goal.returns-in-None
 returns-in-None c =
     let places = row c.args.family c.args.choice in
-    let there = sym (c.place-at.ensures.value ∙ ap (at places) c.from.ensures) ∙ c.in-None.is in
+    let there = sym (c.place_at.ensures.value ∙ ap (at places) c.from.ensures) ∙ c.in-None.is in
     refers_nowhere places c.loop-position.position (some_refers places) c.loop-position.invariant there
 
 pub loop-position-preserved : goal.loop-position-preserved
 loop-position-preserved c =
     let places = row c.args.family c.args.choice in
-    let there = sym (c.place-at.ensures.value ∙ ap (at places) c.from.ensures) ∙ c.in-Some.is in
+    let there = sym (c.place_at.ensures.value ∙ ap (at places) c.from.ensures) ∙ c.in-Some.is in
     refers_later places c.loop-position.position (some_refers places) c.loop-position.invariant c.in-Some.place there c.if-refers.ensures
 
 pub returns : goal.returns

@@ -6,11 +6,11 @@ use Rattle.house.specs.Rolls.{with_listed}
 use Rattle.house.proofs.Admitted.{Admitted, listed_lawful}
 use Rattle.house.proofs.houses.House.list.Goals as goal
 
-pub returns-in-err-terms : goal.returns-in-err-terms
-returns-in-err-terms g c =
+pub returns-in_err-terms : goal.returns-in_err-terms
+returns-in_err-terms g c =
     let s = state c.args.self.now in
-    let p = err_from_is_err_and c.from-residual.result c.from-residual.ensures.1 in
-    let said = c.in-err-terms.ensures in
+    let p = err_from_is_err_and c.from_residual.result c.from_residual.ensures.1 in
+    let said = c.in_err-terms.ensures in
     record {
       answer = p.1 ∙ ap Err p.2 ∙ ap (told s.roll.count) said;
       after = ap (λ r. moved r (λ t. record { phase = s.phase; roll = with_listed t s.roll }) s) said;
@@ -20,13 +20,13 @@ returns-in-err-terms g c =
 pub push-requires : goal.push-requires
 push-requires g c =
     let s = state c.args.self.now in
-    let a = subst (Admitted s.roll.count) (sym c.in-ok-terms.ensures) (listed_lawful (g.L.LadderSet.size c.args.self.now.set) c.args.listing s) in
+    let a = subst (Admitted s.roll.count) (sym c.in_ok-terms.ensures) (listed_lawful (g.L.LadderSet.size c.args.self.now.set) c.args.listing s) in
     record { room = a.0; lawful = a.1 }
 
 pub returns : goal.returns
 returns g c =
     let s = state c.args.self.now in
-    let said = c.in-ok-terms.ensures in
+    let said = c.in_ok-terms.ensures in
     record {
       answer = ap Ok c.count-number.ensures.value ∙ ap (told s.roll.count) said;
       after = ap (λ r. record { phase = s.phase; roll = r }) c.push.ensures ∙ ap (λ r. moved r (λ t. record { phase = s.phase; roll = with_listed t s.roll }) s) said;

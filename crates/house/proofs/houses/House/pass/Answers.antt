@@ -12,6 +12,6 @@ returns g c =
     let h = c.args.self.now in
     let n = c.args.entry.now.series in
     let fits : SFits w64 n = search rules in
-    let found = c.in-ok-series.ensures ∙ ap (λ z. demand (is_listed (state h).roll.count z) NoSuchSeries (Ok (series_of z (state h)))) (to_z-of_z w64 n fits) in
-    c.check-entry.ensures
-    ∙ passed (g.L.LadderSet.lawful h.set) c.args.day.now c.args.entry.now (state h) c.in-ok-series.series (sym c.if-not-is-trading.ensures) found
+    let found = c.in_ok-series.ensures ∙ ap (λ z. demand (is_listed (state h).roll.count z) NoSuchSeries (Ok (series_of z (state h)))) (to_z-of_z w64 n fits) in
+    c.check_entry.ensures
+    ∙ passed (g.L.LadderSet.lawful h.set) c.args.day.now c.args.entry.now (state h) c.in_ok-series.series (sym c.if-not-is_trading.ensures) found

@@ -3,8 +3,8 @@ use Rattle.house.specs.Series.{blank, lawful_series}
 use Rattle.house.proofs.Slots.{all_blank}
 use Rattle.house.proofs.listed.Listed.new.Goals as goal
 
-pub invariant-of-result : goal.invariant-of-result
-invariant-of-result c =
+pub invariant_of-result : goal.invariant_of-result
+invariant_of-result c =
     let none : (n : ℕ) → get_or (replicate 32 c.blank-unused.result) n blank ≡ blank = λ n. ap (λ s. get_or (replicate 32 s) n blank) c.blank-unused.ensures ∙ all_blank 32 n in
     (omega arith, ((λ n. ap (lawful_series n) (none n)), ((λ n h. none n), tt)))
 

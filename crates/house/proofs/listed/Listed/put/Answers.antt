@@ -4,8 +4,8 @@ use Rattle.house.specs.Series.{blank, lawful_series}
 use Rattle.house.proofs.Slots.{lawful_set, slot_set, unused_set}
 use Rattle.house.proofs.listed.Listed.put.Goals as goal
 
-pub invariant-of-self : goal.invariant-of-self
-invariant-of-self c =
+pub invariant_of-self : goal.invariant_of-self
+invariant_of-self c =
     let l = c.args.self.now in
     let long : length l.slots ≡ 32 = search rules in
     let few = l.few in
