@@ -1,7 +1,7 @@
 -- The figures of a book, told by the entries that it took.
 use Rattle.std.proofs.Common.{◌≡◌, ℕ, Bool, true, false, cond, ◌&&◌, List, [], ◌∷◌, ◌++◌, ℤ, pos, ◌+ℤ◌, ◌≤ℤ◌, ◌<ℤ◌, is_some, Some, None, fold, filter, Option, sym, refl, ap, ◌∙◌, subst, ⊎_elim, arith}
 use lib.Signed.{le_z}
-use Rattle.std.specs.List.{AllByRecursion as All}
+use Rattle.std.specs.List.{AllByRecursion}
 use Rattle.std.proofs.lemmas.List.Elements.{filter-append}
 use Rattle.std.proofs.ByRecursion.{All-append, All-push, All-weaker}
 use Rattle.std.proofs.lemmas.List.{append_assoc, append-nil}
@@ -52,7 +52,7 @@ passed_by picked xs e (Some o) none r = record {
 }
 
 -- an entry with as late a stamp as any before it is last
-comes_last : {V : Type 0} (picked : Entry → Option V) (xs : List Entry) (e : Entry) (v : V) → picked e ≡ Some v → All (λ x. is_some (picked x) ≡ true → x.stamp ≤ℤ e.stamp) xs → StandsLast picked (xs ++ (e ∷ [])) (record { stamp = e.stamp; value = v })
+comes_last : {V : Type 0} (picked : Entry → Option V) (xs : List Entry) (e : Entry) (v : V) → picked e ≡ Some v → AllByRecursion (λ x. is_some (picked x) ≡ true → x.stamp ≤ℤ e.stamp) xs → StandsLast picked (xs ++ (e ∷ [])) (record { stamp = e.stamp; value = v })
 comes_last picked xs e v has before = record { front = xs; entry = e; rest = []; stands = refl; value = has; stamp = refl; before = before; since = tt }
 
 -- an entry with an earlier stamp than the last one leaves it
@@ -69,13 +69,13 @@ comes_late picked xs e o early r = record {
 }
 
 -- no entry for the figure has a later stamp than the last one
-none_later : {V : Type 0} (picked : Entry → Option V) (xs : List Entry) (o : Last V) (t : ℤ) → o.stamp ≤ℤ t → StandsLast picked xs o → All (λ x. is_some (picked x) ≡ true → x.stamp ≤ℤ t) xs
+none_later : {V : Type 0} (picked : Entry → Option V) (xs : List Entry) (o : Last V) (t : ℤ) → o.stamp ≤ℤ t → StandsLast picked xs o → AllByRecursion (λ x. is_some (picked x) ≡ true → x.stamp ≤ℤ t) xs
 none_later picked xs o t up r =
     let P : Entry → Type 0 = λ x. is_some (picked x) ≡ true → x.stamp ≤ℤ t in
     let own : r.entry.stamp ≤ℤ t = subst (λ (z : ℤ). z ≤ℤ t) (sym r.stamp) up in
     let front = All-weaker (λ x. is_some (picked x) ≡ true → x.stamp ≤ℤ o.stamp) P (λ x k h. let l = k h in omega (arith, ints)) r.front r.before in
     let rest = All-weaker (λ x. is_some (picked x) ≡ true → x.stamp <ℤ o.stamp) P (λ x k h. let l = k h in omega (arith, ints)) r.rest r.since in
-    subst (All P) (sym r.stands) (All-append P r.front (r.entry ∷ r.rest) front ((λ h. own), rest))
+    subst (AllByRecursion P) (sym r.stands) (All-append P r.front (r.entry ∷ r.rest) front ((λ h. own), rest))
 
 last_push : {V : Type 0} (picked : Entry → Option V) (xs : List Entry) (e : Entry) (q : Option V) (o : Option (Last V)) → picked e ≡ q → LastOf picked xs o → LastOf picked (xs ++ (e ∷ [])) (next q e.stamp o)
 last_push picked xs e None o is r = passed_by picked xs e o is r

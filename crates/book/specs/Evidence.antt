@@ -1,6 +1,6 @@
 -- What the figures of a book say of the entries that it took, without regard to how they were computed.
 use Rattle.std.specs.Prelude.{◌≡◌, ℕ, Bool, true, false, cond, ◌&&◌, List, [], ◌∷◌, ◌++◌, ℤ, pos, ◌+ℤ◌, ◌*ℤ◌, ◌≤ℤ◌, ◌<ℤ◌, is_some, Some, None, filter, Option}
-use Rattle.std.specs.List.{AllByRecursion as All}
+use Rattle.std.specs.List.{AllByRecursion}
 use Rattle.book.specs.Figures.{concerns, is_series}
 use Rattle.book.specs.Ledgers.{Ledger}
 use Rattle.book.specs.Records.{figures_of}
@@ -56,12 +56,12 @@ pub record StandsLast {V : Type 0} (picked : Entry → Option V) (es : List Entr
   pub stands : es ≡ front ++ (entry ∷ rest)
   pub value : picked entry ≡ Some o.value
   pub stamp : entry.stamp ≡ o.stamp
-  pub before : All (λ e. is_some (picked e) ≡ true → e.stamp ≤ℤ o.stamp) front
-  pub since : All (λ e. is_some (picked e) ≡ true → e.stamp <ℤ o.stamp) rest
+  pub before : AllByRecursion (λ e. is_some (picked e) ≡ true → e.stamp ≤ℤ o.stamp) front
+  pub since : AllByRecursion (λ e. is_some (picked e) ≡ true → e.stamp <ℤ o.stamp) rest
 
 -- nothing is last where no entry was taken for the figure
 abbrev pub LastOf : {V : Type 0} → (Entry → Option V) → List Entry → Option (Last V) → Type 0
-LastOf picked es None = All (λ e. picked e ≡ None) es
+LastOf picked es None = AllByRecursion (λ e. picked e ≡ None) es
 LastOf picked es (Some o) = StandsLast picked es o
 
 -- ---- sums

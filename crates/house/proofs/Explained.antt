@@ -1,6 +1,6 @@
 -- Every answer means what `Meaning` says.
 use Rattle.std.proofs.Common.{◌≡◌, ℕ, zero, suc, ◌+◌, ◌<◌, Bool, true, false, ◌&&◌, List, [], ◌∷◌, map, ℤ, nat_abs, Some, None, Ok, Err, Option, Result, refl, ap, ◌∙◌, subst, inl, inr, arith}
-use Rattle.std.specs.List.{AllByRecursion as All}
+use Rattle.std.specs.List.{AllByRecursion}
 use Rattle.std.proofs.lemmas.Bool.{and_left, and_right, cond_both}
 use Rattle.book.specs.Ledgers.{Ledger}
 use Rattle.rows.specs.Codes.{at}
@@ -32,7 +32,7 @@ record StandsFrom (find : Place → Option ℤ) (k : ℕ) (ps : List Place) (s :
 
 -- a settlement stands at a place, or no place finds
 abbrev FoundFrom : (Place → Option ℤ) → ℕ → List Place → Option Settlement → Type 0
-FoundFrom find k ps None = All (λ p. find p ≡ None) ps
+FoundFrom find k ps None = AllByRecursion (λ p. find p ≡ None) ps
 FoundFrom find k ps (Some s) = StandsFrom find k ps s
 
 -- after a place that finds nothing
@@ -86,7 +86,7 @@ module _ (P : ℕ → ℤ → Bool) (ed : Edition) where
     find p = found P (price_of (reference_answer P ed xs)) x p
 
     -- a refusal comes from the series itself or from where its reference's comes
-    refusal : is_first x.series.ruling ≡ false → All (λ p. find p ≡ None) (row_of x.series ed) → Refused P ed (x ∷ xs) (origin ed x (reference_answer P ed xs))
+    refusal : is_first x.series.ruling ≡ false → AllByRecursion (λ p. find p ≡ None) (row_of x.series ed) → Refused P ed (x ∷ xs) (origin ed x (reference_answer P ed xs))
     refusal unruled none =
         cond_both (some_refers (row_of x.series ed)) (origin_of x.number (reference_answer P ed xs)) x.number (Refused P ed (x ∷ xs))
         (λ uses. by uses (reference_answer P ed xs) refl behind)

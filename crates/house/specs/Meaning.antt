@@ -1,6 +1,6 @@
 -- What an answer says of a path, in the words of the rows.
 use Rattle.std.specs.Prelude.{◌≡◌, ℕ, ◌+◌, ◌<◌, Bool, true, false, ◌&&◌, ◌⊎◌, List, [], ◌∷◌, ◌++◌, map, ℤ, Some, None, Ok, Err, Option, Result}
-use Rattle.std.specs.List.{AllByRecursion as All}
+use Rattle.std.specs.List.{AllByRecursion}
 use Rattle.book.specs.Ledgers.{Ledger}
 use Rattle.rows.specs.Codes.{at}
 use Rattle.rows.specs.declared.places.Edition.{Edition}
@@ -58,8 +58,8 @@ pub record Refused (lawful : ℕ → ℤ → Bool) (ed : Edition) (path : List S
   pub on_path : path ≡ front ++ (from ∷ rest)
   pub number : o ≡ from.number
   pub unruled : is_first from.series.ruling ≡ false
-  pub nothing : All (λ p. found lawful (price_of (reference_answer lawful ed rest)) from p ≡ None) (row_of from.series ed)
-  pub passed : All (λ y. some_refers (row_of y.series ed) ≡ true) front
+  pub nothing : AllByRecursion (λ p. found lawful (price_of (reference_answer lawful ed rest)) from p ≡ None) (row_of from.series ed)
+  pub passed : AllByRecursion (λ y. some_refers (row_of y.series ed) ≡ true) front
   pub own : (some_refers (row_of from.series ed) && is_refused (reference_answer lawful ed rest)) ≡ false
 
 -- what an answer says of a series with the stations behind it

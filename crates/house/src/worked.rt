@@ -1,6 +1,6 @@
 // The worked prices, as one list: each is proved of what the steps and answers mean, and tests run the code on them.
 ghost use Rattle.std.specs.Prelude.{◌≡◌, Err};
-ghost use Rattle.std.specs.List.{AllByRecursion as All};
+ghost use Rattle.std.specs.List.{AllByRecursion};
 ghost use Rattle.house.specs.Worked.{Holds, bare_chain};
 
 use rows::steps::Step;
@@ -21,7 +21,7 @@ pub struct WorkedPrice {
 // Beside the prices stands the origin of the refusal of family 8 on family 2 on family 1, numbered from 0 in the order of
 // listing, at the close and all without evidence: the family 1 series.
 pub fn worked_prices() -> ([WorkedPrice; 7], u8)
-    ensures prices { All Holds result.0 }
+    ensures prices { AllByRecursion Holds result.0 }
     ensures refused { bare_chain ≡ Err result.1 }
 {
     let nothing = WorkedPrice {

@@ -1,7 +1,7 @@
 -- A description has no fault exactly if it is lawful.
 use Rattle.std.specs.Prelude.{◌≡◌, ℕ, Bool, true, false, cond, ◌&&◌, List, [], ◌∷◌, length, ℤ, pos, ◌≤ℤ◌, is_ok, Some, None, Ok, Err, Decides, Option, Result, MatchResult, ◌≢◌, int_le, nat_le, unsigned_abs, refl}
 use Rattle.std.proofs.Common.{sym, ap, ◌∙◌, arith}
-use Rattle.std.specs.List.{AllByRecursion as All}
+use Rattle.std.specs.List.{AllByRecursion}
 use Rattle.std.proofs.lemmas.Int.{ints}
 use Rattle.std.proofs.lemmas.Bool.{and_parts, and_from, cond-true, leb-true, le-leb, true≢false}
 use Rattle.ladders.specs.Bands.{rises, start_fault, band_fault, first_fault, later_fault, ladder_fault, no_start}
@@ -93,7 +93,7 @@ next_band a b s bs is e =
     let own = none_of_both (tick_fault b.tick) (start_fault a b.tick b.start) each.0 in
     (start_lawful a b s (ap (start_fault a b.tick) (sym is) ∙ own.1), each.1)
 
-later_lawful : (a : Band) (bs : List Band) → later_fault a bs ≡ None → All (λ b. LawfulTick b.tick) bs × Chain a bs
+later_lawful : (a : Band) (bs : List Band) → later_fault a bs ≡ None → AllByRecursion (λ b. LawfulTick b.tick) bs × Chain a bs
 later_lawful a [] e = (tt, tt)
 later_lawful a (b ∷ bs) e =
     let each = none_of_both (band_fault a b) (later_fault b bs) e in
@@ -101,7 +101,7 @@ later_lawful a (b ∷ bs) e =
     let rest = later_lawful b bs each.1 in
     ((tick_lawful b.tick own.0, rest.0), (follows a b b.start refl own.1, rest.1))
 
-later_sound : (a : Band) (bs : List Band) → All (λ b. LawfulTick b.tick) bs → Chain a bs → later_fault a bs ≡ None
+later_sound : (a : Band) (bs : List Band) → AllByRecursion (λ b. LawfulTick b.tick) bs → Chain a bs → later_fault a bs ≡ None
 later_sound a [] ticks chain = refl
 later_sound a (b ∷ bs) ticks chain =
     let s = chain.0 in

@@ -1,7 +1,7 @@
 -- Lawful descriptions, in the words of the rules. The definitions of faults tell besides what is wrong, and in which order
 -- that is looked for; a contract says that the two agree.
 use Rattle.std.specs.Prelude.{◌≡◌, ◌≤◌, true, List, [], ◌∷◌, length, ℤ, pos, ◌≤ℤ◌, ◌<ℤ◌, Some, None, Option, unsigned_abs}
-use Rattle.std.specs.List.{AllByRecursion as All}
+use Rattle.std.specs.List.{AllByRecursion}
 use Rattle.ladders.specs.Multiples.{multiple}
 use Rattle.ladders.specs.Prices.{within}
 use Rattle.ladders.specs.declared.bands.Band.{Band}
@@ -41,5 +41,5 @@ Joined (b ∷ bs) = (b.start ≡ None) × Chain b bs
 pub record LawfulBands (bs : List Band) : Type 0 where
   pub some : 1 ≤ length bs
   pub few : length bs ≤ 4
-  pub ticks : All (λ b. LawfulTick b.tick) bs
+  pub ticks : AllByRecursion (λ b. LawfulTick b.tick) bs
   pub joined : Joined bs

@@ -1,5 +1,5 @@
 // The worked roundings, as one list: each is proved of what rounding means, and the tests run the code on them.
-ghost use Rattle.std.specs.List.{AllByRecursion as All};
+ghost use Rattle.std.specs.List.{AllByRecursion};
 ghost use Rattle.ladders.specs.Worked.{Holds};
 
 #[derive(Clone, Copy)]
@@ -18,7 +18,7 @@ pub struct Worked {
 
 // A theory value to the nearest and up, halves at negative numbers, and the middle of a bid of 100 and an ask of 130.
 pub fn worked_roundings() -> [Worked; 6]
-    ensures { All Holds result }
+    ensures { AllByRecursion Holds result }
 {
     [
         Worked {

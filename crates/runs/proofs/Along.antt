@@ -1,6 +1,6 @@
 -- What holds from a series to the one that refers to it holds along a path.
 use Rattle.std.proofs.Common.{◌≡◌, ℕ, Bool, true, List, [], ◌∷◌, ℤ, Some, None, Option}
-use Rattle.std.specs.List.{AllZip, AllByRecursion as All}
+use Rattle.std.specs.List.{AllZip, AllByRecursion}
 use Rattle.book.specs.Bounds.{bounded}
 use Rattle.rows.specs.declared.places.Edition.{Edition}
 use Rattle.house.specs.Answers.{Answer, answered, settled}
@@ -17,7 +17,7 @@ pub record StationLawful (x : Station) : Type 0 where
 abbrev pub LawfulPair : (Station → Station → Type 0) → Station → Station → Type 0
 LawfulPair R x y = StationLawful x × StationLawful y × R x y
 
-pub lawful_pairs : (R : Station → Station → Type 0) (xs ys : List Station) → All StationLawful xs → All StationLawful ys → AllZip R xs ys → AllZip (LawfulPair R) xs ys
+pub lawful_pairs : (R : Station → Station → Type 0) (xs ys : List Station) → AllByRecursion StationLawful xs → AllByRecursion StationLawful ys → AllZip R xs ys → AllZip (LawfulPair R) xs ys
 lawful_pairs R [] [] l m r = tt
 lawful_pairs R [] (y ∷ ys) l m r = r
 lawful_pairs R (x ∷ xs) [] l m r = r

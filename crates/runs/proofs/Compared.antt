@@ -1,6 +1,6 @@
 -- Two runs compared, by the calls taken in each.
 use Rattle.std.proofs.Common.{◌≡◌, ℕ, ◌+◌, Bool, true, false, ◌||◌, List, [], ◌∷◌, map, length, ℤ, pos, nat_abs, Ok, Err, fold, Result, sym, refl, ap, ◌∙◌, subst, add-zero, arith}
-use Rattle.std.specs.List.{AllZip, AllByRecursion as All}
+use Rattle.std.specs.List.{AllZip, AllByRecursion}
 use Rattle.std.proofs.lemmas.Bool.{and_parts, cond-true, eq-eqb}
 use Rattle.book.specs.Bounds.{bounded}
 use Rattle.book.specs.Entries.{allowed}
@@ -78,14 +78,14 @@ module _ (d : Day) (k ladders : ℕ) (P : ℕ → ℤ → Bool) (calls : List Ca
     figures = λ v. (0 + length (entries xs), bounded_all n (edges d v) 0 empty (entries xs) (told_allowed d k ladders P calls) (bounded_empty 0));
   }
 
-  all_lawful : (ns : List ℕ) → All StationLawful (map (spot d xs) ns)
+  all_lawful : (ns : List ℕ) → AllByRecursion StationLawful (map (spot d xs) ns)
   all_lawful [] = tt
   all_lawful (n ∷ ns) = (spot_lawful n, all_lawful ns)
 
 -- ---- along one path
 
 -- each number of a path is on it
-each_on_path : (before ns : List ℕ) → ((k : ℕ) → on_path ns (pos k) ≡ true → on_path before (pos k) ≡ true) → All (λ k. on_path before (pos k) ≡ true) ns
+each_on_path : (before ns : List ℕ) → ((k : ℕ) → on_path ns (pos k) ≡ true → on_path before (pos k) ≡ true) → AllByRecursion (λ k. on_path before (pos k) ≡ true) ns
 each_on_path before [] inside = tt
 each_on_path before (n ∷ ns) inside =
     let here : on_path (n ∷ ns) (pos n) ≡ true = ap (λ b. b || on_path ns (pos n)) (eq-eqb n n refl) in
@@ -96,7 +96,7 @@ each_on_path before (n ∷ ns) inside =
     or_later false b h = h
 
 -- what holds of each number of a path pairs the stations of two lists of calls
-pairs : (A : ℕ → Type 0) (R : Station → Station → Type 0) (f g : ℕ → Station) (path ns : List ℕ) → ((k : ℕ) → A k → on_path path (pos k) ≡ true → R (f k) (g k)) → All A ns → All (λ k. on_path path (pos k) ≡ true) ns → AllZip R (map f ns) (map g ns)
+pairs : (A : ℕ → Type 0) (R : Station → Station → Type 0) (f g : ℕ → Station) (path ns : List ℕ) → ((k : ℕ) → A k → on_path path (pos k) ≡ true → R (f k) (g k)) → AllByRecursion A ns → AllByRecursion (λ k. on_path path (pos k) ≡ true) ns → AllZip R (map f ns) (map g ns)
 pairs A R f g path [] each a on = tt
 pairs A R f g path (n ∷ ns) each a on = (each n a.0 on.0, pairs A R f g path ns each a.1 on.1)
 
@@ -110,7 +110,7 @@ abbrev tail : List ℕ → List ℕ
 tail [] = []
 tail (n ∷ ns) = ns
 
-module _ (d : Day) (n : ℕ) (xs ys : List Call) (A : ℕ → Type 0) (R : Station → Station → Type 0) (each : (k : ℕ) → A k → on_path (path_of xs n) (pos k) ≡ true → R (spot d xs k) (spot d ys k)) (a : All A (path_of xs n)) (numbers : path_of xs n ≡ path_of ys n) where
+module _ (d : Day) (n : ℕ) (xs ys : List Call) (A : ℕ → Type 0) (R : Station → Station → Type 0) (each : (k : ℕ) → A k → on_path (path_of xs n) (pos k) ≡ true → R (spot d xs k) (spot d ys k)) (a : AllByRecursion A (path_of xs n)) (numbers : path_of xs n ≡ path_of ys n) where
   -- the stations of both runs, paired along the path
   path_pairs : AllZip R (spot d xs n ∷ map (spot d xs) (references (stands xs) n)) (spot d ys n ∷ map (spot d ys) (references (stands ys) n))
   path_pairs =

@@ -1,7 +1,7 @@
 -- Stations with more figures have answers at no later a place.
 use Rattle.std.proofs.Common.{◌≡◌, ℕ, ◌+◌, ◌≤◌, Bool, true, false, cond, List, [], ◌∷◌, ℤ, nat_abs, ◌≤ℤ◌, is_some, Some, None, Ok, Err, Option, sym, refl, ap, ◌∙◌, subst, arith}
 use mathlib.Core.Bool.{false≢true}
-use Rattle.std.specs.List.{AllZip, AllByRecursion as All}
+use Rattle.std.specs.List.{AllZip, AllByRecursion}
 use Rattle.std.proofs.lemmas.Int.{ints}
 use Rattle.std.proofs.lemmas.Bool.{lt-ltb, ltb-true}
 use Rattle.book.specs.Bounds.{bounded}
@@ -138,5 +138,5 @@ module _ (P : ℕ → ℤ → Bool) (ed : Edition) where
       (first_more f g (found_more x y (price_of u) (price_of v) pair (price_more u v h)) 1 (row_of x.series ed))))
 
   -- where stations settle, stations with more figures settle too, at no later a place
-  pub more_answers : (x y : Station) (xs ys : List Station) → All StationLawful (x ∷ xs) → All StationLawful (y ∷ ys) → AllZip StationMore (x ∷ xs) (y ∷ ys) → NoLater (settled P ed x xs) (settled P ed y ys)
+  pub more_answers : (x y : Station) (xs ys : List Station) → AllByRecursion StationLawful (x ∷ xs) → AllByRecursion StationLawful (y ∷ ys) → AllZip StationMore (x ∷ xs) (y ∷ ys) → NoLater (settled P ed x xs) (settled P ed y ys)
   more_answers x y xs ys l m more = along P ed (LawfulPair StationMore) NoLater answered_more x y xs ys (lawful_pairs StationMore (x ∷ xs) (y ∷ ys) l m more)

@@ -1,7 +1,7 @@
 -- Raised stations have answers that are not lower.
 use Rattle.std.proofs.Common.{◌≡◌, ℕ, ◌+◌, ◌<◌, Bool, true, false, cond, ltb, List, [], ◌∷◌, ℤ, ◌+ℤ◌, nat_abs, ◌≤ℤ◌, Some, None, Ok, Err, Option, sym, refl, ◌∙◌, subst, true≢false, arith}
 use mathlib.Core.Bool.{false≢true}
-use Rattle.std.specs.List.{AllZip, AllByRecursion as All}
+use Rattle.std.specs.List.{AllZip, AllByRecursion}
 use Rattle.std.proofs.lemmas.Int.{ints}
 use Rattle.std.proofs.lemmas.Bool.{and_parts}
 use Rattle.book.specs.Bounds.{bounded, sides_if}
@@ -214,5 +214,5 @@ module _ (P : ℕ → ℤ → Bool) (near : (n : ℕ) (z : ℤ) → Near (P n) z
       (origin_raised x y u v rise h))
 
   -- raised stations settle together, at the same step and place and at no lower price, or are refused from the same series
-  pub raised_answers : (x y : Station) (xs ys : List Station) → All StationLawful (x ∷ xs) → All StationLawful (y ∷ ys) → AllZip StationRaised (x ∷ xs) (y ∷ ys) → NotLower (settled P ed x xs) (settled P ed y ys)
+  pub raised_answers : (x y : Station) (xs ys : List Station) → AllByRecursion StationLawful (x ∷ xs) → AllByRecursion StationLawful (y ∷ ys) → AllZip StationRaised (x ∷ xs) (y ∷ ys) → NotLower (settled P ed x xs) (settled P ed y ys)
   raised_answers x y xs ys l m rise = along P ed (LawfulPair StationRaised) NotLower answered_raised x y xs ys (lawful_pairs StationRaised (x ∷ xs) (y ∷ ys) l m rise)

@@ -1,6 +1,6 @@
 -- Entries with trades, auctions and spreads added.
 use Rattle.std.specs.Prelude.{◌≡◌, Bool, true, false, ◌⊎◌, List, [], ◌∷◌}
-use Rattle.std.specs.List.{AllByRecursion as All}
+use Rattle.std.specs.List.{AllByRecursion}
 use Rattle.book.specs.declared.entries.Entry.{Entry}
 use Rattle.book.specs.declared.entries.Kind.{Kind}
 use Rattle.book.specs.declared.entries.Kind.TheVariants.{Trade, Auction, Leg, Spread, Quote}
@@ -15,6 +15,6 @@ extra (Quote b a) = false
 
 -- the first entries stand among the second in their order, and the rest there are trades, auctions or spreads
 abbrev pub Among : List Entry → List Entry → Type 0
-Among [] fs = All (λ f. extra f.kind ≡ true) fs
+Among [] fs = AllByRecursion (λ f. extra f.kind ≡ true) fs
 Among (e ∷ es) [] = ⊥
 Among (e ∷ es) (f ∷ fs) = ((e ≡ f) × Among es fs) ⊎ ((extra f.kind ≡ true) × Among (e ∷ es) fs)

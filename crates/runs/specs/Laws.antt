@@ -1,6 +1,6 @@
 -- Two runs, and what must be equal, raised or added in the evidence on the path of a series.
 use Rattle.std.specs.Prelude.{◌≡◌, ℕ, Bool, true, List, ℤ, Result, unsigned_abs}
-use Rattle.std.specs.List.{AllZip, AllByRecursion as All}
+use Rattle.std.specs.List.{AllZip, AllByRecursion}
 use Rattle.book.specs.Ledgers.{Ledger}
 use Rattle.book.specs.declared.days.Day.{Day}
 use Rattle.rows.specs.declared.places.Edition.{Edition}
@@ -76,20 +76,20 @@ path_of calls n = path (stands calls) n
 -- the same terms and supplied values stand on the path, and the same entries were taken there in order, legs aside
 pub record SameEvidence (n : ℕ) (xs ys : List Call) : Type 0 where
   pub numbers : path_of xs n ≡ path_of ys n
-  pub terms : All (λ k. stands xs k ≡ stands ys k) (path_of xs n)
+  pub terms : AllByRecursion (λ k. stands xs k ≡ stands ys k) (path_of xs n)
   pub evidence : kept (path_of xs n) (entries xs) ≡ kept (path_of xs n) (entries ys)
 
 -- of these only prices differ, and none is lower in the second
 pub record RaisedEvidence (n : ℕ) (xs ys : List Call) : Type 0 where
   pub numbers : path_of xs n ≡ path_of ys n
-  pub terms : All (λ k. SeriesRaised (stands xs k) (stands ys k)) (path_of xs n)
+  pub terms : AllByRecursion (λ k. SeriesRaised (stands xs k) (stands ys k)) (path_of xs n)
   pub evidence : AllZip EntryRaised (kept (path_of xs n) (entries xs)) (kept (path_of xs n) (entries ys))
 
 -- the same terms and supplied values, and the first entries stand among the second in their order; the rest there are
 -- trades, auctions or spreads
 pub record MoreEvidence (n : ℕ) (xs ys : List Call) : Type 0 where
   pub numbers : path_of xs n ≡ path_of ys n
-  pub terms : All (λ k. stands xs k ≡ stands ys k) (path_of xs n)
+  pub terms : AllByRecursion (λ k. stands xs k ≡ stands ys k) (path_of xs n)
   pub evidence : Among (kept (path_of xs n) (entries xs)) (kept (path_of xs n) (entries ys))
 
 -- ---- the laws, under a premise on both runs

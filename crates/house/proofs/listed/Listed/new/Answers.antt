@@ -6,7 +6,7 @@ use Rattle.house.proofs.listed.Listed.new.Goals as goal
 pub invariant_of-result : goal.invariant_of-result
 invariant_of-result c =
     let none : (n : ℕ) → get_or (replicate 32 c.blank-unused.result) n blank ≡ blank = λ n. ap (λ s. get_or (replicate 32 s) n blank) c.blank-unused.ensures ∙ all_blank 32 n in
-    (omega arith, ((λ n. ap (lawful_series n) (none n)), ((λ n h. none n), tt)))
+    record { few = omega arith; lawful = λ n. ap (lawful_series n) (none n); unused = λ n h. none n }
 
 pub returns : goal.returns
 returns c =

@@ -11,13 +11,12 @@ invariant_of-self c =
     let long : length l.slots ≡ 32 = search rules in
     let room = ltb-true l.count 32 c.requires.room in
     let at = c.from.ensures in
-    let unused = l.unused in (
-      omega arith,
-      (
-        lawful_set l.slots c.from.result (new_series c.args.terms) (omega arith) l.lawful (subst (λ (n : ℕ). lawful_series n (new_series c.args.terms) ≡ true) (sym at) c.requires.lawful),
-        ((unused_set l.slots c.from.result (l.count + 1) (new_series c.args.terms) (omega arith) (λ n h. unused n (omega arith))), tt),
-      ),
-    )
+    let unused = l.unused in
+    record {
+      few = omega arith;
+      lawful = lawful_set l.slots c.from.result (new_series c.args.terms) (omega arith) l.lawful (subst (λ (n : ℕ). lawful_series n (new_series c.args.terms) ≡ true) (sym at) c.requires.lawful);
+      unused = unused_set l.slots c.from.result (l.count + 1) (new_series c.args.terms) (omega arith) (λ n h. unused n (omega arith));
+    }
 
 pub returns : goal.returns
 returns c =

@@ -10,13 +10,12 @@ invariant_of-self c =
     let long : length l.slots ≡ 32 = search rules in
     let few = l.few in
     let listed = c.requires.listed in
-    let at = c.from.ensures in (
-      few,
-      (
-        lawful_set l.slots c.from.result c.args.series (omega arith) l.lawful (subst (λ (n : ℕ). lawful_series n c.args.series ≡ true) (sym at) c.requires.lawful),
-        (unused_set l.slots c.from.result l.count c.args.series (omega arith) l.unused, tt),
-      ),
-    )
+    let at = c.from.ensures in
+    record {
+      few = few;
+      lawful = lawful_set l.slots c.from.result c.args.series (omega arith) l.lawful (subst (λ (n : ℕ). lawful_series n c.args.series ≡ true) (sym at) c.requires.lawful);
+      unused = unused_set l.slots c.from.result l.count c.args.series (omega arith) l.unused;
+    }
 
 pub returns : goal.returns
 returns c =
