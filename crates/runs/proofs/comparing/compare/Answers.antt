@@ -14,10 +14,10 @@ returns g c =
     let n = x.series in
     let ed = x.edition in
     let plain = to_z-of_z w64 n c.ranges.series in
-    let one = c.ask-both.ensures.one ∙ ap (λ z. answer_in a z ed) plain in
-    let other = c.ask-both.ensures.other ∙ ap (λ z. answer_in b z ed) plain in
+    let one = c.ask_both.ensures.one ∙ ap (λ z. answer_in a z ed) plain in
+    let other = c.ask_both.ensures.other ∙ ap (λ z. answer_in b z ed) plain in
     record {
-      laws = subst (λ (p : Result Settlement HouseFault). Laws (Comparable a b n ed) a b n ed p c.ask-both.result.1) (sym one)
+      laws = subst (λ (p : Result Settlement HouseFault). Laws (Comparable a b n ed) a b n ed p c.ask_both.result.1) (sym one)
           (subst (λ (q : Result Settlement HouseFault). Laws (Comparable a b n ed) a b n ed (answer_in a n ed) q) (sym other)
           (laws a b n ed (g.met.K.LadderSet.dense x.first.now.set)));
     }
