@@ -1,5 +1,5 @@
 -- A place at which fields depart from a grammar of which no writing begins another.
-use Rattle.std.proofs.Common.{◌≡◌, ℕ, ◌+◌, List, [], ◌∷◌, ◌++◌, sym, refl, ap, ◌∙◌, inl, inr, append_assoc, append-nil, arith}
+use Rattle.std.proofs.Common.{◌≡◌, ℕ, List, [], ◌∷◌, ◌++◌, sym, refl, ap, ◌∙◌, inl, inr, append_assoc, append-nil, arith}
 use Rattle.lines.specs.Places.{GoesOn, Whole, Breaks, after, Missed}
 
 -- of two ways to cut a list, the cuts are the same, or one comes first

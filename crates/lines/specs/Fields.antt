@@ -1,5 +1,5 @@
 -- Lines and their fields, as bytes.
-use Rattle.std.specs.Prelude.{ℕ, ◌+◌, cond, List, [], ◌∷◌, ◌++◌, drop, ◌==◌}
+use Rattle.std.specs.Prelude.{ℕ, cond, List, [], ◌∷◌, ◌++◌, drop, ◌==◌}
 
 -- the fields with a space before each
 abbrev pub trailed : List (List ℕ) → List ℕ

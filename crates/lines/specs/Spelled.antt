@@ -7,7 +7,6 @@ use Rattle.house.specs.declared.phases.Bell.{Bell}
 use Rattle.house.specs.declared.phases.Bell.TheVariants as bells
 use Rattle.rows.specs.declared.places.Edition.{Edition}
 use Rattle.rows.specs.declared.places.Edition.TheVariants as editions
-use Rattle.runs.specs.declared.calls.Call.{Call}
 use Rattle.runs.specs.declared.calls.Call.TheVariants as calls
 use Rattle.lines.specs.declared.calls.LineCall.{LineCall}
 use Rattle.lines.specs.declared.calls.LineCall.TheVariants as lines

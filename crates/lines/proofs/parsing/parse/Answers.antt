@@ -9,9 +9,9 @@ returns-then-line-gt-LONGEST c =
     let h = parsed_long c.args.line.now (record { place = 200 }) c.if-line-gt-LONGEST.true refl in
     record { parsed = h; alone = parsed_alone c.args.line.now (Err (record { place = 200 })) h; within = parsed_within c.args.line.now (Err (record { place = 200 })) h }
 
-pub returns-in-default : goal.returns-in-default
-returns-in-default c =
-    let h = parsed_unknown c.args.line.now c.begin.result.0.now (left_at c.args.line.now c.begin.result.1.at) (record { place = 0 }) c.if-line-gt-LONGEST.false c.begin.ensures.cut c.in-default.ensures refl in
+pub returns-in_default : goal.returns-in_default
+returns-in_default c =
+    let h = parsed_unknown c.args.line.now c.begin.result.0.now (left_at c.args.line.now c.begin.result.1.at) (record { place = 0 }) c.if-line-gt-LONGEST.false c.begin.ensures.cut c.in_default.ensures refl in
     record { parsed = h; alone = parsed_alone c.args.line.now (Err (record { place = 0 })) h; within = parsed_within c.args.line.now (Err (record { place = 0 })) h }
 
 pub returns : goal.returns

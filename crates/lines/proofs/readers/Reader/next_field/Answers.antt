@@ -12,11 +12,11 @@ pub returns : goal.returns
 returns c =
     let at = c.args.self.now.at in
     let line = c.args.self.now.line.now in
-    let end = c.field-end-end.result in
+    let end = c.field_end-end.result in
     let w : at ≤ length line = c.args.self.now.within in
     let l : at < length line = omega arith in
     let d : length (drop (at + 1) line) ≡ length line - (at + 1) = length-drop (at + 1) line in
     record {
       line = refl;
-      cut = (left_cut line at l ∙ c.field-end-end.ensures.cut, omega (arith, length-take-le (end - (at + 1)) (drop (at + 1) line) (omega arith)));
+      cut = (left_cut line at l ∙ c.field_end-end.ensures.cut, omega (arith, length-take-le (end - (at + 1)) (drop (at + 1) line) (omega arith)));
     }

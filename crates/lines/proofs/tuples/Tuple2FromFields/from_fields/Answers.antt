@@ -4,30 +4,30 @@ use Rattle.lines.specs.Fields.{left_at}
 use Rattle.lines.proofs.Missing.{missed_first, missed_more, missed_none}
 use Rattle.lines.proofs.tuples.Tuple2FromFields.from_fields.Goals as goal
 
-pub returns-in-default : goal.returns-in-default
-returns-in-default g c =
+pub returns-in_default : goal.returns-in_default
+returns-in_default g c =
     missed_none g.T.FromField.spelt g.T.FromField.lawful g.R.FromFields.spelt g.R.FromFields.lawful
     g.T.FromField.sample g.met.T.FromField.sampled g.R.FromFields.sample g.met.R.FromFields.sampled
-    (left_at c.args.reader.now.line.now c.args.reader.now.at) c.in-default.ensures.cut.0
+    (left_at c.args.reader.now.line.now c.args.reader.now.at) c.in_default.ensures.cut.0
     c.args.reader.now.at
 
-pub returns-in-default-from-field : goal.returns-in-default-from-field
-returns-in-default-from-field g c =
+pub returns-in_default-from_field : goal.returns-in_default-from_field
+returns-in_default-from_field g c =
     missed_first g.T.FromField.spelt g.T.FromField.lawful g.R.FromFields.spelt g.R.FromFields.lawful
     g.T.FromField.sample g.met.T.FromField.sampled g.R.FromFields.sample g.met.R.FromFields.sampled
     c.in-Some.field.now (left_at c.args.reader.now.line.now c.args.reader.now.at)
-    (left_at c.args.reader.now.line.now c.next-field.new.self.at) c.in-Some.ensures.cut.0
-    (c.args.reader.now.at + 1) c.in-default-from-field.ensures
+    (left_at c.args.reader.now.line.now c.next_field.new.self.at) c.in-Some.ensures.cut.0
+    (c.args.reader.now.at + 1) c.in_default-from_field.ensures
 
-pub returns-in-err-rest : goal.returns-in-err-rest
-returns-in-err-rest g c =
-    let p = err_from_is_err_and c.from-residual.result c.from-residual.ensures.1 in
+pub returns-in_err-rest : goal.returns-in_err-rest
+returns-in_err-rest g c =
+    let p = err_from_is_err_and c.from_residual.result c.from_residual.ensures.1 in
     rw (p.1, p.2)
     (missed_more g.T.FromField.spelt g.T.FromField.lawful g.R.FromFields.spelt g.R.FromFields.lawful
-    c.in-Some-from-field.first c.in-Some-from-field.ensures.0 c.in-Some.field.now
-    c.in-Some-from-field.ensures.1
+    c.in-Some-from_field.first c.in-Some-from_field.ensures.0 c.in-Some.field.now
+    c.in-Some-from_field.ensures.1
     (left_at c.args.reader.now.line.now c.args.reader.now.at)
-    (left_at c.args.reader.now.line.now c.next-field.new.self.at)
-    (left_at c.next-field.new.self.line.now c.next-field.new.self.at) c.in-Some.ensures.cut.0
-    (ap (λ line. left_at line c.next-field.new.self.at) c.in-Some.ensures.line) (c.args.reader.now.at + 1)
-    (c.next-field.new.self.at + 1) _ (omega (arith, c.in-Some.ensures.cut.1)) c.in-err-rest.ensures)
+    (left_at c.args.reader.now.line.now c.next_field.new.self.at)
+    (left_at c.next_field.new.self.line.now c.next_field.new.self.at) c.in-Some.ensures.cut.0
+    (ap (λ line. left_at line c.next_field.new.self.at) c.in-Some.ensures.line) (c.args.reader.now.at + 1)
+    (c.next_field.new.self.at + 1) _ (omega (arith, c.in-Some.ensures.cut.1)) c.in_err-rest.ensures)

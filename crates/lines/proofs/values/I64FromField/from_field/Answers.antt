@@ -1,4 +1,4 @@
-use Rattle.std.proofs.Common.{◌-◌, rules}
+use Rattle.std.proofs.Common.{rules}
 use Rattle.lines.proofs.Numbers.{minus_front, minus_none, minus_some, minus_zero}
 use Rattle.lines.proofs.values.I64FromField.from_field.Goals as goal
 

@@ -4,8 +4,8 @@ use Rattle.rows.specs.declared.places.Edition.TheVariants.{Close, Morning}
 use Rattle.lines.specs.Spelled.{edition_word}
 use Rattle.lines.proofs.words.EditionFromField.from_field.Goals as goal
 
-pub returns-in-99 : goal.returns-in-99
-returns-in-99 c = (tt, text_from_reads c.args.field.now (edition_word Close) (search rules) (search rules))
+pub returns-in-close : goal.returns-in-close
+returns-in-close c = (tt, text_from_reads c.args.field.now (edition_word Close) (search rules) (search rules))
 
-pub returns-in-109 : goal.returns-in-109
-returns-in-109 c = (tt, text_from_reads c.args.field.now (edition_word Morning) (search rules) (search rules))
+pub returns-in-morning : goal.returns-in-morning
+returns-in-morning c = (tt, text_from_reads c.args.field.now (edition_word Morning) (search rules) (search rules))
