@@ -399,6 +399,7 @@ mod tests {
         use house::phases::Bell;
         use ladders::sets::{EvenSet, LadderSet};
         use rows::places::Edition;
+        use std::process::Abort;
         use std::test::*;
         use tape::tapes::Tape;
 
@@ -414,11 +415,11 @@ mod tests {
 
         // Runs a case on a tape and on a board of so many places.
         macro_rules! on_both {
-            ($case:ident, $places:expr) => {{
+            ($rt:ident, $case:ident, $places:expr) => {{
                 let day = LawfulDay::new(DAY)?;
                 let mut slots = [BLANK; $places];
-                $case(&mut Tape::new(day, &mut slots))?;
-                $case(&mut Board::new(day, $places))
+                $case(&$rt, &mut Tape::new(day, &mut slots))?;
+                $case(&$rt, &mut Board::new(day, $places))
             }};
         }
 
@@ -473,16 +474,16 @@ mod tests {
         }
 
         // Before the open bell and after the close bell.
-        fn entries_out_of_phase<B: Book>(book: &mut B) -> Result<(), Fail> {
+        fn entries_out_of_phase<B: Book>(rt: &impl Abort, book: &mut B) -> Result<(), Fail> {
             let mut house = new_house()?;
             house.list(listing(1, None))?;
-            assert_eq!(refusal(house.enter(book, TRADE)), 2);
-            assert_eq!(
+            assert_eq!(rt; refusal(house.enter(book, TRADE)), 2);
+            assert_eq!(rt;
                 refusal(house.enter(book, trade(1, 140_000, 100))),
                 2,
                 "2 before 4"
             );
-            assert_eq!(
+            assert_eq!(rt;
                 refusal(house.enter(book, trade(0, 140_000, 2_000_000_000))),
                 2,
                 "2 before 6"
@@ -490,170 +491,170 @@ mod tests {
             house.ring(Bell::Open)?;
             house.enter(book, TRADE)?;
             house.ring(Bell::Close)?;
-            assert_eq!(refusal(house.enter(book, TRADE)), 2, "2 before 9");
-            assert_eq!(
+            assert_eq!(rt; refusal(house.enter(book, TRADE)), 2, "2 before 9");
+            assert_eq!(rt;
                 refusal(house.enter(book, trade(1, 140_000, 100))),
                 2,
                 "2 before 4"
             );
-            assert_eq!(book.count(), 1);
+            assert_eq!(rt; book.count(), 1);
             Ok(())
         }
 
         #[test]
-        fn entries_before_and_after() -> Result<(), Fail> {
-            on_both!(entries_out_of_phase, 1)
+        fn entries_before_and_after(rt: HostRuntime) -> Result<(), Fail> {
+            on_both!(rt, entries_out_of_phase, 1)
         }
 
-        fn entries_of_no_series<B: Book>(book: &mut B) -> Result<(), Fail> {
+        fn entries_of_no_series<B: Book>(rt: &impl Abort, book: &mut B) -> Result<(), Fail> {
             let house = trading()?;
             for series in [1, 31, 32, 40, -1, 256, i64::MAX, i64::MIN] {
-                assert_eq!(refusal(house.enter(book, trade(series, 140_000, 100))), 4);
-                assert_eq!(
+                assert_eq!(rt; refusal(house.enter(book, trade(series, 140_000, 100))), 4);
+                assert_eq!(rt;
                     refusal(house.enter(book, trade(series, 140_000, 2_000_000_000))),
                     4,
                     "4 before 6"
                 );
-                assert_eq!(
+                assert_eq!(rt;
                     refusal(house.enter(book, trade(series, 140_000, 101))),
                     4,
                     "4 before 7"
                 );
-                assert_eq!(
+                assert_eq!(rt;
                     refusal(house.enter(book, spread(series, 140_000, 10))),
                     4,
                     "4 before 8"
                 );
             }
-            assert_eq!(book.count(), 0);
+            assert_eq!(rt; book.count(), 0);
             Ok(())
         }
 
         #[test]
-        fn entries_for_nobody() -> Result<(), Fail> {
-            on_both!(entries_of_no_series, 1)
+        fn entries_for_nobody(rt: HostRuntime) -> Result<(), Fail> {
+            on_both!(rt, entries_of_no_series, 1)
         }
 
         // What the book refuses with 6 comes before the ladder and before the family.
-        fn entries_beyond_limits<B: Book>(book: &mut B) -> Result<(), Fail> {
+        fn entries_beyond_limits<B: Book>(rt: &impl Abort, book: &mut B) -> Result<(), Fail> {
             let house = trading()?;
-            assert_eq!(refusal(house.enter(book, trade(0, 59_999, 100))), 6);
-            assert_eq!(refusal(house.enter(book, trade(0, 143_401, 100))), 6);
-            assert_eq!(
+            assert_eq!(rt; refusal(house.enter(book, trade(0, 59_999, 100))), 6);
+            assert_eq!(rt; refusal(house.enter(book, trade(0, 143_401, 100))), 6);
+            assert_eq!(rt;
                 refusal(house.enter(book, trade(0, 140_000, 1_000_000_010))),
                 6
             );
-            assert_eq!(
+            assert_eq!(rt;
                 refusal(house.enter(book, quote(0, 140_000, Some(100), Some(100)))),
                 6,
                 "crossed"
             );
-            assert_eq!(
+            assert_eq!(rt;
                 refusal(house.enter(book, trade(0, 140_000, 1_000_000_001))),
                 6,
                 "6 before 7"
             );
-            assert_eq!(
+            assert_eq!(rt;
                 refusal(house.enter(book, trade(0, 59_999, 101))),
                 6,
                 "6 before 7"
             );
-            assert_eq!(
+            assert_eq!(rt;
                 refusal(house.enter(book, spread(0, 140_000, 100_000_001))),
                 6,
                 "6 before 8"
             );
-            assert_eq!(
+            assert_eq!(rt;
                 refusal(house.enter(book, spread(0, 143_401, 10))),
                 6,
                 "6 before 8"
             );
-            assert_eq!(book.count(), 0);
+            assert_eq!(rt; book.count(), 0);
             Ok(())
         }
 
         #[test]
-        fn limits() -> Result<(), Fail> {
-            on_both!(entries_beyond_limits, 1)
+        fn limits(rt: HostRuntime) -> Result<(), Fail> {
+            on_both!(rt, entries_beyond_limits, 1)
         }
 
         // On tick 10, 101 is no price. A spread is no price, and for family 2 only.
-        fn entries_off_the_ladder<B: Book>(book: &mut B) -> Result<(), Fail> {
+        fn entries_off_the_ladder<B: Book>(rt: &impl Abort, book: &mut B) -> Result<(), Fail> {
             let house = trading()?;
             let (price, lots) = (101, 1);
-            assert_eq!(refusal(house.enter(book, trade(0, 140_000, price))), 7);
-            assert_eq!(
+            assert_eq!(rt; refusal(house.enter(book, trade(0, 140_000, price))), 7);
+            assert_eq!(rt;
                 refusal(house.enter(book, entry(0, 140_000, Kind::Auction { price, lots }))),
                 7
             );
-            assert_eq!(
+            assert_eq!(rt;
                 refusal(house.enter(book, entry(0, 140_000, Kind::Leg { price, lots }))),
                 7
             );
-            assert_eq!(
+            assert_eq!(rt;
                 refusal(house.enter(book, quote(0, 140_000, Some(101), Some(110)))),
                 7
             );
-            assert_eq!(
+            assert_eq!(rt;
                 refusal(house.enter(book, quote(0, 140_000, Some(100), Some(101)))),
                 7
             );
-            assert_eq!(
+            assert_eq!(rt;
                 refusal(house.enter(book, quote(0, 140_000, None, Some(101)))),
                 7
             );
-            assert_eq!(
+            assert_eq!(rt;
                 refusal(house.enter(book, quote(0, 140_000, Some(101), None))),
                 7
             );
-            assert_eq!(refusal(house.enter(book, spread(0, 140_000, 10))), 8);
+            assert_eq!(rt; refusal(house.enter(book, spread(0, 140_000, 10))), 8);
             house.enter(book, quote(0, 140_000, Some(-100), Some(1_000_000_000)))?;
             house.enter(book, quote(0, 140_000, None, None))?;
-            assert_eq!(book.count(), 2);
+            assert_eq!(rt; book.count(), 2);
             Ok(())
         }
 
         #[test]
-        fn ladders_and_spreads() -> Result<(), Fail> {
-            on_both!(entries_off_the_ladder, 2)
+        fn ladders_and_spreads(rt: HostRuntime) -> Result<(), Fail> {
+            on_both!(rt, entries_off_the_ladder, 2)
         }
 
         // A full book is told last.
-        fn entries_into_a_full_book<B: Book>(book: &mut B) -> Result<(), Fail> {
+        fn entries_into_a_full_book<B: Book>(rt: &impl Abort, book: &mut B) -> Result<(), Fail> {
             let house = trading()?;
             house.enter(book, TRADE)?;
-            assert_eq!(
+            assert_eq!(rt;
                 house.enter(book, TRADE).err(),
                 Some(HouseFault::Book(BookFault::Full))
             );
-            assert_eq!(refusal(house.enter(book, TRADE)), 9);
-            assert_eq!(
+            assert_eq!(rt; refusal(house.enter(book, TRADE)), 9);
+            assert_eq!(rt;
                 refusal(house.enter(book, trade(1, 140_000, 100))),
                 4,
                 "4 before 9"
             );
-            assert_eq!(
+            assert_eq!(rt;
                 refusal(house.enter(book, trade(0, 143_401, 100))),
                 6,
                 "6 before 9"
             );
-            assert_eq!(
+            assert_eq!(rt;
                 refusal(house.enter(book, spread(0, 140_000, 10))),
                 8,
                 "8 before 9"
             );
-            assert_eq!(
+            assert_eq!(rt;
                 refusal(house.enter(book, trade(0, 140_000, 101))),
                 7,
                 "7 before 9"
             );
-            assert_eq!(book.count(), 1);
+            assert_eq!(rt; book.count(), 1);
             Ok(())
         }
 
         #[test]
-        fn full_books() -> Result<(), Fail> {
-            on_both!(entries_into_a_full_book, 1)
+        fn full_books(rt: HostRuntime) -> Result<(), Fail> {
+            on_both!(rt, entries_into_a_full_book, 1)
         }
 
         #[test]
@@ -685,35 +686,35 @@ mod tests {
             Ok(())
         }
 
-        fn questions_out_of_phase<B: Book>(book: &mut B) -> Result<(), Fail> {
+        fn questions_out_of_phase<B: Book>(rt: &impl Abort, book: &mut B) -> Result<(), Fail> {
             let mut house = new_house()?;
             house.list(listing(1, None))?;
-            assert_eq!(refusal(house.settle(book, 0, Edition::Morning)), 2);
-            assert_eq!(
+            assert_eq!(rt; refusal(house.settle(book, 0, Edition::Morning)), 2);
+            assert_eq!(rt;
                 refusal(house.settle(book, 1, Edition::Close)),
                 2,
                 "2 before 4"
             );
             house.ring(Bell::Open)?;
-            assert_eq!(refusal(house.settle(book, 0, Edition::Close)), 2);
-            assert_eq!(
+            assert_eq!(rt; refusal(house.settle(book, 0, Edition::Close)), 2);
+            assert_eq!(rt;
                 refusal(house.settle(book, 1, Edition::Close)),
                 2,
                 "2 before 4"
             );
-            assert_eq!(refusal(house.settle(book, 1, Edition::Morning)), 4);
-            assert_eq!(refusal(house.settle(book, 0, Edition::Morning)), 10);
+            assert_eq!(rt; refusal(house.settle(book, 1, Edition::Morning)), 4);
+            assert_eq!(rt; refusal(house.settle(book, 0, Edition::Morning)), 10);
             house.ring(Bell::Close)?;
-            assert_eq!(refusal(house.settle(book, 0, Edition::Close)), 10);
-            assert_eq!(refusal(house.settle(book, 0, Edition::Morning)), 10);
-            assert_eq!(refusal(house.settle(book, 1, Edition::Close)), 4);
-            assert_eq!(refusal(house.settle(book, -1, Edition::Morning)), 4);
+            assert_eq!(rt; refusal(house.settle(book, 0, Edition::Close)), 10);
+            assert_eq!(rt; refusal(house.settle(book, 0, Edition::Morning)), 10);
+            assert_eq!(rt; refusal(house.settle(book, 1, Edition::Close)), 4);
+            assert_eq!(rt; refusal(house.settle(book, -1, Edition::Morning)), 4);
             Ok(())
         }
 
         #[test]
-        fn questions() -> Result<(), Fail> {
-            on_both!(questions_out_of_phase, 1)
+        fn questions(rt: HostRuntime) -> Result<(), Fail> {
+            on_both!(rt, questions_out_of_phase, 1)
         }
     }
 
@@ -923,13 +924,17 @@ mod tests {
             house.ring(Bell::Close)?;
             match (house.settle(&board, 1, edition), row.split(' ').nth(from)) {
                 (Ok(found), Some(word)) => {
-                    assert_eq!(rt; found.step.letter(), letter_of(word));
-                    assert_eq!(rt; usize::from(found.place), from.wrapping_add(1));
-                    assert_eq!(rt; found.price, price_by(letter_of(word)));
+                    assert_eq!(rt; found.step.letter(), letter_of(word), "{row} from {from}");
+                    assert_eq!(rt;
+                        usize::from(found.place),
+                        from.wrapping_add(1),
+                        "{row} from {from}"
+                    );
+                    assert_eq!(rt; found.price, price_by(letter_of(word)), "{row} from {from}");
                     Ok(())
                 }
                 (Err(fault), None) => {
-                    assert_eq!(rt; fault.number(), 10);
+                    assert_eq!(rt; fault.number(), 10, "{row} from {from}");
                     Ok(())
                 },
                 (Ok(_), None) => Err(Fail::new("a price without evidence")),
@@ -945,9 +950,7 @@ mod tests {
             row: &str,
         ) -> Result<(), Fail> {
             for from in 0..=row.split(' ').count() {
-                decides(rt, family, marks, edition, row, from)
-                    .note(row)
-                    .note(from)?;
+                decides(rt, family, marks, edition, row, from)?;
             }
             Ok(())
         }
