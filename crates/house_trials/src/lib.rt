@@ -937,8 +937,10 @@ mod tests {
                     assert_eq!(rt; fault.number(), 10, "{row} from {from}");
                     Ok(())
                 },
-                (Ok(_), None) => Err(Fail::new("a price without evidence")),
-                (Err(_), Some(_)) => Err(Fail::new("no price")),
+                (Ok(_), None) => Err(Fail::new(format_args!(
+                    "a price without evidence: {row} from {from}"
+                ))),
+                (Err(_), Some(_)) => Err(Fail::new(format_args!("no price: {row} from {from}"))),
             }
         }
 
