@@ -1,8 +1,8 @@
 -- The rules of rows: one test, computed over all rows, and carried to each.
 use Rattle.std.proofs.Common.{◌≡◌, ℕ, zero, suc, ◌-◌, ◌<◌, ◌≤◌, Bool, true, false, not, ◌&&◌, ◌||◌, eqb, leb, List, [], ◌∷◌, length, get_or, Some, None, Option, sym, refl, ap, ◌∙◌, subst, arith}
 use Rattle.std.proofs.lemmas.Bool.{and_parts, or_parts, not-true, leb-true, eq-eqb, true≢false, false≢true}
-use Rattle.rows.specs.Codes.{at, code, choices, all_families, choice_number}
-use Rattle.rows.specs.Families.{number}
+use Rattle.rows.specs.Codes.{at, code, choices, choice_number}
+use Rattle.rows.specs.Families.{all_families, number}
 use Rattle.rows.specs.RowRules.{looks, Fitting, RowLawful}
 use Rattle.rows.specs.Rows.{row}
 use Rattle.rows.specs.declared.families.Family.{Family}

@@ -1,9 +1,8 @@
 -- The rows as one table of codes: for each family four rows, for each row six places.
 use Rattle.std.specs.Prelude.{ℕ, zero, suc, ◌+◌, ◌-◌, ◌*◌, ◌/◌, ◌%◌, List, [], ◌∷◌, map, Some, None, Option, slice_index, slice_index_or}
-use Rattle.rows.specs.Families.{number}
+use Rattle.rows.specs.Families.{all_families, number}
 use Rattle.rows.specs.Rows.{row}
 use Rattle.rows.specs.declared.families.Family.{Family}
-use Rattle.rows.specs.declared.families.Family.TheVariants.{LongBond, FollowingBond, OtherBond, MiniBond, ThreeMonthRate, FrontIndex, LaterIndex, CopiedIndex, TheoryIndex, ForeignIndex, DeliveredCommodity, CashCommodity, DeliveredGrain, NearOption, OtherOption}
 use Rattle.rows.specs.declared.places.Choice.{Choice}
 use Rattle.rows.specs.declared.places.Choice.TheVariants.{Close, LastDay, QuarterEnd, Morning}
 use Rattle.rows.specs.declared.places.Place.{Place}
@@ -37,6 +36,7 @@ step_number Ruling = 11
 
 -- ---- a code is sixteen times the number of the step, and the window, if there is one; 0 is an empty place
 
+-- the number of a window; 0, which no window has, where there is none
 abbrev pub window_number : Option ℕ → ℕ
 window_number None = 0
 window_number (Some w) = w
@@ -52,11 +52,6 @@ padded (suc n) (p ∷ ps) = code p ∷ padded n ps
 
 abbrev pub choices : List Choice
 choices = Close ∷ LastDay ∷ QuarterEnd ∷ Morning ∷ []
-
-abbrev pub all_families : List Family
-all_families =
-    LongBond ∷ FollowingBond ∷ OtherBond ∷ MiniBond ∷ ThreeMonthRate ∷ FrontIndex ∷ LaterIndex ∷ CopiedIndex ∷ TheoryIndex ∷ ForeignIndex
-    ∷ DeliveredCommodity ∷ CashCommodity ∷ DeliveredGrain ∷ NearOption ∷ OtherOption ∷ []
 
 -- the whole table: from family 1 on, four rows a family, six places a row
 abbrev pub codes : List (List (List ℕ))

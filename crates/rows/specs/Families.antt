@@ -1,5 +1,5 @@
 -- The number of each family.
-use Rattle.std.specs.Prelude.{ℕ, List, [], ◌∷◌, ℤ, pos, negsuc, Some, None, Option, slice_index_or}
+use Rattle.std.specs.Prelude.{ℕ, List, [], ◌∷◌, map, ℤ, pos, negsuc, Some, None, Option, slice_index_or}
 use Rattle.rows.specs.declared.families.Family.{Family}
 use Rattle.rows.specs.declared.families.Family.TheVariants.{LongBond, FollowingBond, OtherBond, MiniBond, ThreeMonthRate, FrontIndex, LaterIndex, CopiedIndex, TheoryIndex, ForeignIndex, DeliveredCommodity, CashCommodity, DeliveredGrain, NearOption, OtherOption}
 
@@ -21,11 +21,14 @@ number NearOption = 14
 number OtherOption = 15
 
 -- the families in the order of their numbers, from 1 on
+abbrev pub all_families : List Family
+all_families =
+    LongBond ∷ FollowingBond ∷ OtherBond ∷ MiniBond ∷ ThreeMonthRate ∷ FrontIndex ∷ LaterIndex ∷ CopiedIndex ∷ TheoryIndex ∷ ForeignIndex
+    ∷ DeliveredCommodity ∷ CashCommodity ∷ DeliveredGrain ∷ NearOption ∷ OtherOption ∷ []
+
+-- the family of each number, from 0 on
 abbrev pub families : List (Option Family)
-families =
-    None ∷ Some LongBond ∷ Some FollowingBond ∷ Some OtherBond ∷ Some MiniBond ∷ Some ThreeMonthRate ∷ Some FrontIndex ∷ Some LaterIndex
-    ∷ Some CopiedIndex ∷ Some TheoryIndex ∷ Some ForeignIndex ∷ Some DeliveredCommodity ∷ Some CashCommodity ∷ Some DeliveredGrain
-    ∷ Some NearOption ∷ Some OtherOption ∷ []
+families = None ∷ map Some all_families
 
 abbrev pub family_of : ℤ → Option Family
 family_of (pos n) = slice_index_or families n None

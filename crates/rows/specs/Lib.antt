@@ -4,3 +4,4 @@ pub mod Rows
 pub mod Codes
 pub mod RowRules
 pub mod Chosen
+pub mod Editions

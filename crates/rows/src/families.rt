@@ -1,10 +1,10 @@
 // The families of series. A family is known by its number, 1 to 15.
-ghost use Rattle.std.specs.Prelude.{◌≡◌, ◌≤◌};
+ghost use Rattle.std.specs.Prelude.{◌≡◌, ◌≤◌, Some, None, MatchResult};
 ghost use Rattle.rows.specs.Families.{family_of, number};
 
 #[derive(Clone, Copy, PartialEq, Eq, Debug)]
 pub enum Family {
-    LongBond,
+    LongBond = 1,
     FollowingBond,
     OtherBond,
     MiniBond,
@@ -21,51 +21,43 @@ pub enum Family {
     OtherOption,
 }
 
-impl Family {
-    // The family of a number, if it is one of 1 to 15.
-    pub fn of(number: i64) -> Option<Family>
-        ensures { result ≡ family_of number }
-    {
-        match number {
-            1 => Some(Family::LongBond),
-            2 => Some(Family::FollowingBond),
-            3 => Some(Family::OtherBond),
-            4 => Some(Family::MiniBond),
-            5 => Some(Family::ThreeMonthRate),
-            6 => Some(Family::FrontIndex),
-            7 => Some(Family::LaterIndex),
-            8 => Some(Family::CopiedIndex),
-            9 => Some(Family::TheoryIndex),
-            10 => Some(Family::ForeignIndex),
-            11 => Some(Family::DeliveredCommodity),
-            12 => Some(Family::CashCommodity),
-            13 => Some(Family::DeliveredGrain),
-            14 => Some(Family::NearOption),
-            15 => Some(Family::OtherOption),
-            _ => None,
-        }
-    }
+// A number that no family has.
+#[derive(Clone, Copy, PartialEq, Eq, Debug)]
+pub struct NoSuchFamily(pub i64);
 
+impl Family {
     pub fn number(self) -> u8
         ensures value { result ≡ number self }
         ensures range { (1 ≤ result) × (result ≤ 15) }
     {
-        match self {
-            Family::LongBond => 1,
-            Family::FollowingBond => 2,
-            Family::OtherBond => 3,
-            Family::MiniBond => 4,
-            Family::ThreeMonthRate => 5,
-            Family::FrontIndex => 6,
-            Family::LaterIndex => 7,
-            Family::CopiedIndex => 8,
-            Family::TheoryIndex => 9,
-            Family::ForeignIndex => 10,
-            Family::DeliveredCommodity => 11,
-            Family::CashCommodity => 12,
-            Family::DeliveredGrain => 13,
-            Family::NearOption => 14,
-            Family::OtherOption => 15,
+        self as u8
+    }
+}
+
+impl TryFrom<i64> for Family {
+    type Error = NoSuchFamily;
+
+    ghost try_from_gives = { λ n res. MatchResult res (λ f. family_of n ≡ Some f) (λ e. (family_of n ≡ None) × (e.0 ≡ n)) };
+
+    // The family of a number, if it is one of 1 to 15.
+    fn try_from(number: i64) -> Result<Family, NoSuchFamily> {
+        match number {
+            1 => Ok(Family::LongBond),
+            2 => Ok(Family::FollowingBond),
+            3 => Ok(Family::OtherBond),
+            4 => Ok(Family::MiniBond),
+            5 => Ok(Family::ThreeMonthRate),
+            6 => Ok(Family::FrontIndex),
+            7 => Ok(Family::LaterIndex),
+            8 => Ok(Family::CopiedIndex),
+            9 => Ok(Family::TheoryIndex),
+            10 => Ok(Family::ForeignIndex),
+            11 => Ok(Family::DeliveredCommodity),
+            12 => Ok(Family::CashCommodity),
+            13 => Ok(Family::DeliveredGrain),
+            14 => Ok(Family::NearOption),
+            15 => Ok(Family::OtherOption),
+            _ => Err(NoSuchFamily(number)),
         }
     }
 }

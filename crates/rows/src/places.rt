@@ -1,5 +1,9 @@
 // A place of a row: a step, and the window that it looks in, where it has one.
+ghost use Rattle.std.specs.Prelude.{Some};
+ghost use Rattle.rows.specs.Editions.{name};
+
 use crate::steps::Step;
+use std::fmt;
 
 #[derive(Clone, Copy, PartialEq, Eq, Debug)]
 pub struct Place {
@@ -21,6 +25,17 @@ pub enum Choice {
 pub enum Edition {
     Close,
     Morning,
+}
+
+impl fmt::Display for Edition {
+    ghost output = { λ e. Some (name e) };
+
+    fn fmt<W: fmt::Write>(&self, f: &mut fmt::Formatter<W>) -> fmt::Result {
+        f.write_str(match self {
+            Edition::Close => "close",
+            Edition::Morning => "morning",
+        })
+    }
 }
 
 // What is known of a series on the day: whether it is its last day, and the end of a quarter. Both may stand.

@@ -1,6 +1,8 @@
 // The steps by which a price may be found, each known by a letter.
-ghost use Rattle.std.specs.Prelude.{◌≡◌};
+ghost use Rattle.std.specs.Prelude.{◌≡◌, [], ◌∷◌, Some};
 ghost use Rattle.rows.specs.Steps.{letter};
+
+use std::fmt;
 
 #[derive(Clone, Copy, PartialEq, Eq, Debug)]
 pub enum Step {
@@ -35,5 +37,14 @@ impl Step {
             Step::Previous => b'B',
             Step::Ruling => b'D',
         }
+    }
+}
+
+// A step is printed as its letter.
+impl fmt::Display for Step {
+    ghost output = { λ s. Some (letter s ∷ []) };
+
+    fn fmt<W: fmt::Write>(&self, f: &mut fmt::Formatter<W>) -> fmt::Result {
+        f.write_char(char::from(self.letter()))
     }
 }

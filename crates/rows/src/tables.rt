@@ -1,7 +1,7 @@
 // The rows of all families as one table of codes: four rows a family (close, last-day close, quarter-end close, morning),
 // six places a row.
-ghost use Rattle.std.specs.Prelude.{◌≡◌, ◌<◌, None, slice_index_or};
-ghost use Rattle.rows.specs.Codes.{at, code_at, decoded, steps, window_of, choice_number};
+ghost use Rattle.std.specs.Prelude.{◌≡◌, ℕ, None, slice_index, slice_index_or};
+ghost use Rattle.rows.specs.Codes.{at, code_at, decoded, steps, window_of};
 ghost use Rattle.rows.specs.RowRules.{RowLawful};
 ghost use Rattle.rows.specs.Rows.{row};
 
@@ -9,7 +9,8 @@ use crate::families::Family;
 use crate::places::{Choice, Place};
 use crate::steps::Step;
 
-// The code of a step; one that looks in a window has the window's number added.
+// The code of a step; one that looks in a window has the window's number added. Codes and not places: the rules of the project
+// ask for the rows as one constant table of codes.
 const NONE: u8 = 0;
 
 const A: u8 = 16;
@@ -128,30 +129,15 @@ const TABLE: [[[u8; 6]; 4]; 15] = [
     ],
 ];
 
-// The rows of a family in the order of the table.
-fn choice_number(choice: Choice) -> usize
-    ensures value { result ≡ choice_number choice }
-    ensures range { result < 4 }
+// The codes of a row.
+fn codes(family: Family, choice: Choice) -> [u8; 6]
+    ensures { (k : ℕ) → slice_index result k ≡ code_at family choice k }
 {
-    match choice {
-        Choice::Close => 0,
-        Choice::LastDay => 1,
-        Choice::QuarterEnd => 2,
-        Choice::Morning => 3,
-    }
+    let rows = TABLE[usize::from(family.number() - 1)];
+    rows[choice as usize]
 }
 
-// The code of a place of a row.
-fn code(family: Family, choice: Choice, position: usize) -> u8
-    requires { position < 6 }
-    ensures { result ≡ code_at family choice position }
-{
-    let rows = &TABLE[usize::from(family.number() - 1)];
-    let row = &rows[choice_number(choice)];
-    row[position]
-}
-
-// The step of a number from 1 on.
+// The step of a number from 1 on. An Option and no TryFrom: 0 is no error, but the code of an empty place.
 fn step_of(number: u8) -> Option<Step>
     ensures { result ≡ slice_index_or steps number None }
 {
@@ -174,20 +160,25 @@ fn step_of(number: u8) -> Option<Step>
 fn window_of(number: u8) -> Option<u8>
     ensures { result ≡ window_of number }
 {
-    if number == 0 { None } else { Some(number) }
+    (number != 0).then_some(number)
 }
 
 // The place that a code stands for; nothing for an empty place.
 fn decode(code: u8) -> Option<Place>
     ensures { result ≡ decoded code }
 {
-    match step_of(code / 16) {
-        Some(step) => Some(Place {
-            step,
-            window: window_of(code % 16),
-        }),
-        None => None,
-    }
+    Some(Place {
+        step: step_of(code / 16)?,
+        window: window_of(code % 16),
+    })
+}
+
+// The places of a row, with nothing past its end.
+pub fn places(family: Family, choice: Choice) -> [Option<Place>; 6]
+    ensures value { (k : ℕ) → slice_index_or result k None ≡ at (row family choice) k }
+    ensures lawful { RowLawful (row family choice) }
+{
+    codes(family, choice).map(decode)
 }
 
 // The place of a row at a position from 0 on; nothing past its end.
@@ -195,8 +186,5 @@ pub fn place_at(family: Family, choice: Choice, position: usize) -> Option<Place
     ensures value { result ≡ at (row family choice) position }
     ensures lawful { RowLawful (row family choice) }
 {
-    if position >= 6 {
-        return None;
-    }
-    decode(code(family, choice, position))
+    *places(family, choice).get(position)?
 }

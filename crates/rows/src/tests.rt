@@ -13,7 +13,7 @@ const BOTH: Marks = Marks {
 
 #[test]
 fn a_quarter_end_leaves_the_trades_out(rt: HostRuntime) -> Result<(), Fail> {
-    let family = Family::of(6).ok_or("no family 6")?;
+    let family = Family::try_from(6)?;
     let first = place_at(family, Choice::Close, 0);
     assert_eq!(rt;
         first,
