@@ -55,9 +55,6 @@ series_parts n s h =
 pub previous_spread : (n : ℕ) (s : Series) → lawful_series n s ≡ true → spread_if s.terms.spread ≡ true
 previous_spread n s h = (series_parts n s h).spread
 
-pub last_spread : (k : ℕ) (v : Values) → bounded k v ≡ true → spread_if v.spread ≡ true
-last_spread k v h = (parts k v h).spread
-
 -- ---- how far prices reach
 
 price_reach : (n : ℕ) (v : ℤ) → price_lawful v ≡ true → nat_abs v ≤ reach n

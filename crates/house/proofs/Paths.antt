@@ -1,5 +1,5 @@
--- The path behind a series, and how far prices along it reach.
-use Rattle.std.proofs.Common.{◌≡◌, ℕ, zero, suc, ◌<◌, ◌≤◌, Bool, true, ◌&&◌, [], ◌∷◌, map, ℤ, pos, Some, None, Ok, Err, Option, refl, ap, ◌∙◌, subst, arith}
+-- The path behind a series.
+use Rattle.std.proofs.Common.{◌≡◌, ℕ, zero, suc, ◌<◌, ◌≤◌, Bool, true, ◌&&◌, [], ◌∷◌, map, ℤ, pos, Some, None, Option, refl, ap, ◌∙◌, subst, arith}
 use lib.Signed.{le_z, lt_z}
 use Rattle.std.proofs.lemmas.Int.{ints}
 use Rattle.std.proofs.lemmas.Bool.{and_parts}
@@ -7,9 +7,8 @@ use Rattle.book.specs.Entries.{side_lawful}
 use Rattle.book.specs.Ledgers.{Ledger}
 use Rattle.rows.specs.declared.families.Family.{Family}
 use Rattle.rows.specs.declared.places.Edition.{Edition}
-use Rattle.house.specs.Answers.{Answer, answered, behind, price_of, references, settled, settled_at, station}
+use Rattle.house.specs.Answers.{Answer, answered, behind, references, settled, settled_at, station}
 use Rattle.house.specs.Calls.{State}
-use Rattle.house.specs.Reach.{AnswerInReach, InReachBefore}
 use Rattle.house.specs.Series.{integer_if, lawful_ruling, lawful_series}
 use Rattle.house.specs.Terms.{lawful_reference, lawful_spread, lawful_terms, may_refer}
 use Rattle.house.specs.declared.series.Series.{Series}
@@ -64,10 +63,3 @@ module _ (P : ℕ → ℤ → Bool) (ed : Edition) (s : State) (m : Ledger) (law
   pub settled_with : (n : ℕ) (o : Option ℕ) → (s.roll.series n).terms.reference ≡ o → settled_at P ed s m n ≡ answered P ed (station s m n) (of_reference (settled_at P ed s m) o)
   settled_with n None is = ap (λ rs. settled P ed (station s m n) (map (station s m) rs)) (no_reference s.roll.series lawful n is)
   settled_with n (Some r) is = ap (λ rs. settled P ed (station s m n) (map (station s m) rs)) (next_reference s.roll.series lawful n r is)
-
--- ---- how far prices along a path reach
-
--- the price of an earlier series is a spread short of the reach
-pub short_of_reach : (n r : ℕ) (a : Answer) → r < n → AnswerInReach r a → InReachBefore n (price_of (Some a))
-short_of_reach n r (Ok x) l h = omega arith
-short_of_reach n r (Err o) l h = tt

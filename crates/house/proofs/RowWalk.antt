@@ -1,5 +1,6 @@
 -- A row gone through place by place.
-use Rattle.std.proofs.Common.{◌≡◌, ℕ, zero, suc, ◌+◌, ◌≤◌, Bool, true, false, ◌||◌, List, [], ◌∷◌, length, drop, ℤ, Some, None, Option, sym, refl, ap, ◌∙◌, arith}
+use Rattle.std.proofs.Common.{◌≡◌, ℕ, zero, suc, ◌+◌, ◌≤◌, Bool, false, ◌||◌, List, [], ◌∷◌, length, drop, get_or, ℤ, Some, None, Option, refl, ap, ◌∙◌, arith}
+use Rattle.std.specs.List.{list_any}
 use Rattle.rows.specs.Codes.{at}
 use Rattle.rows.specs.declared.places.Place.{Place}
 use Rattle.house.specs.Answers.{first_found, or_later, refers, some_refers}
@@ -44,18 +45,14 @@ module _ (find : Place → Option ℤ) (ps : List Place) (j : ℕ) (whole : Opti
 
 -- ---- whether a step uses the reference
 
-module _ (ps : List Place) (j : ℕ) (whole : Bool) (so_far : whole ≡ some_refers (drop j ps)) where
-  this : (p : Place) (b : Bool) → at ps j ≡ Some p → b ≡ refers p.step → whole ≡ (b || some_refers (drop (j + 1) ps))
-  this p b h is = so_far ∙ ap some_refers (rest_some ps j p h) ∙ ap (λ x. x || some_refers (drop (j + 1) ps)) (sym is)
+abbrev pub refers_if : Option Place → Bool
+refers_if None = false
+refers_if (Some p) = refers p.step
 
-  pub refers_here : (p : Place) → at ps j ≡ Some p → true ≡ refers p.step → true ≡ whole
-  refers_here p h is = sym (this p true h is)
-
-  pub refers_later : (p : Place) → at ps j ≡ Some p → false ≡ refers p.step → whole ≡ some_refers (drop (j + 1) ps)
-  refers_later p h is = this p false h is
-
-  pub refers_nowhere : at ps j ≡ None → false ≡ whole
-  refers_nowhere h = sym (so_far ∙ ap some_refers (rest_none ps j h))
-
-  pub refers_not : length ps ≤ j → false ≡ whole
-  refers_not h = sym (so_far ∙ ap some_refers (rest_past ps j h))
+-- the places as they are handed out, with nothing past the row's end
+pub any_refers : (os : List (Option Place)) (ps : List Place) → ((k : ℕ) → get_or os k None ≡ at ps k) → length ps ≤ length os → list_any refers_if os ≡ some_refers ps
+any_refers [] [] told h = refl
+any_refers [] (p ∷ ps) told h = absurd (omega arith)
+any_refers (o ∷ os) [] told h = ap (λ x. refers_if x || list_any refers_if os) (told 0) ∙ any_refers os [] (λ k. told (suc k)) (omega arith)
+any_refers (o ∷ os) (p ∷ ps) told h =
+    ap (λ x. refers_if x || list_any refers_if os) (told 0) ∙ ap (λ b. refers p.step || b) (any_refers os ps (λ k. told (suc k)) (omega arith))

@@ -1,6 +1,6 @@
 -- How far a settled price can pass the price limit: by less than a tick where it was rounded, and by a spread for each
 -- reference before it.
-use Rattle.std.specs.Prelude.{ℕ, ◌+◌, ◌*◌, ◌≤◌, ℤ, Some, None, Ok, Err, Option, Result, unsigned_abs}
+use Rattle.std.specs.Prelude.{ℕ, ◌+◌, ◌*◌, ◌≤◌, ℤ, Option, Result, IfSome, IfOk, unsigned_abs}
 use Rattle.house.specs.declared.answers.Settlement.{Settlement}
 
 abbrev pub reach : ℕ → ℕ
@@ -8,18 +8,14 @@ reach n = 1001000000 + n * 100000000
 
 -- a price of the series numbered n
 abbrev pub InReach : ℕ → Option ℤ → Type 0
-InReach n None = Unit {0}
-InReach n (Some v) = unsigned_abs v ≤ reach n
+InReach n p = IfSome p (λ v. unsigned_abs v ≤ reach n)
 
 -- a price of an earlier series: one spread less
 abbrev pub InReachBefore : ℕ → Option ℤ → Type 0
-InReachBefore n None = Unit {0}
-InReachBefore n (Some v) = unsigned_abs v + 100000000 ≤ reach n
+InReachBefore n p = IfSome p (λ v. unsigned_abs v + 100000000 ≤ reach n)
 
 abbrev pub FoundInReach : ℕ → Option Settlement → Type 0
-FoundInReach n None = Unit {0}
-FoundInReach n (Some s) = unsigned_abs s.price ≤ reach n
+FoundInReach n o = IfSome o (λ s. unsigned_abs s.price ≤ reach n)
 
 abbrev pub AnswerInReach : ℕ → Result Settlement ℕ → Type 0
-AnswerInReach n (Ok s) = unsigned_abs s.price ≤ reach n
-AnswerInReach n (Err o) = Unit {0}
+AnswerInReach n r = IfOk r (λ s. unsigned_abs s.price ≤ reach n)

@@ -8,7 +8,7 @@ use crate::faults::HouseFault;
 use crate::houses::House;
 use crate::listed::Listed;
 use crate::phases::{Bell, Phase};
-use crate::series::Ruling;
+use crate::series::{Ruling, Series};
 use crate::terms::{Listing, Terms, follows};
 use book::books::Book;
 use book::days::Day;
@@ -41,10 +41,7 @@ fn may_have(family: Family, kind: Kind) -> bool
 fn is_side_lawful<L: LadderSet>(set: &L, ladder: u8, side: Option<i64>) -> bool
     ensures { result ≡ side_on_ladder (L.lawful set.now ladder) side }
 {
-    match side {
-        Some(price) => is_lawful(set, ladder, price),
-        None => true,
-    }
+    side.is_none_or(|price| is_lawful(set, ladder, price))
 }
 
 // Whether the prices of an entry are on the ladder.
@@ -52,6 +49,7 @@ fn is_on_ladder<L: LadderSet>(set: &L, ladder: u8, kind: Kind) -> bool
     ensures { result ≡ kind_on_ladder (L.lawful set.now ladder) kind }
 {
     match kind {
+        // The kit's checker refuses an or-pattern that binds the price, so the three kinds stand one by one.
         Kind::Trade { price, .. } => is_lawful(set, ladder, price),
         Kind::Auction { price, .. } => is_lawful(set, ladder, price),
         Kind::Leg { price, .. } => is_lawful(set, ladder, price),
@@ -87,20 +85,14 @@ fn check_entry<L: LadderSet>(
 fn may_rule(value: Option<i64>, first: bool) -> bool
     ensures { result ≡ may_rule value first }
 {
-    match value {
-        Some(v) => is_price(v),
-        None => !first,
-    }
+    value.map_or(!first, is_price)
 }
 
 fn ruling_of(value: Option<i64>, first: bool) -> Option<Ruling>
     ensures value { result ≡ ruling_of value first }
     ensures lawful { may_rule value first ≡ true → lawful_ruling result ≡ true }
 {
-    match value {
-        Some(value) => Some(Ruling { value, first }),
-        None => None,
-    }
+    value.map(|value| Ruling { value, first })
 }
 
 impl<L: LadderSet> House<L> {
@@ -121,7 +113,7 @@ impl<L: LadderSet> House<L> {
         ensures { result ≡ listed_terms (L.size self.now.set) listing.now (state self.now) }
     {
         let number = self.listed.count();
-        if !self.phase.is_listing() {
+        if self.phase != Phase::Listing {
             return Err(HouseFault::WrongPhase);
         }
         if !has_room(number) {
@@ -160,7 +152,7 @@ impl<L: LadderSet> House<L> {
     fn pass(&self, day: &Day, entry: &Entry) -> Result<(), HouseFault>
         ensures { result ≡ entry_passed (L.lawful self.now.set) day.now entry.now (state self.now) }
     {
-        if !self.phase.is_trading() {
+        if self.phase != Phase::Trading {
             return Err(HouseFault::WrongPhase);
         }
         let series = self.listed.series(entry.series)?;
@@ -187,7 +179,9 @@ impl<L: LadderSet> House<L> {
         if !is_side(value) {
             return Err(HouseFault::SuppliedBeyondLimits);
         }
-        self.listed.set_theory(number, value);
+        let series = self.listed.get(number);
+        let theory = value;
+        self.listed.put(number, Series { theory, ..series });
         Ok(())
     }
 
@@ -206,7 +200,9 @@ impl<L: LadderSet> House<L> {
         if !may_rule(value, first) {
             return Err(HouseFault::SuppliedBeyondLimits);
         }
-        self.listed.set_ruling(number, ruling_of(value, first));
+        let series = self.listed.get(number);
+        let ruling = ruling_of(value, first);
+        self.listed.put(number, Series { ruling, ..series });
         Ok(())
     }
 }

@@ -4,6 +4,7 @@ ghost use Rattle.house.specs.Faults.{house_number};
 ghost use Rattle.house.specs.declared.faults.HouseFault.TheVariants as refused;
 
 use book::faults::BookFault;
+use rows::families::NoSuchFamily;
 
 #[derive(Clone, Copy, PartialEq, Eq, Debug)]
 pub enum HouseFault {
@@ -48,5 +49,13 @@ impl From<BookFault> for HouseFault {
 
     fn from(refusal: BookFault) -> HouseFault {
         HouseFault::Book(refusal)
+    }
+}
+
+impl From<NoSuchFamily> for HouseFault {
+    ghost from_gives = { λ _ r. r ≡ refused.TermsNotLawful };
+
+    fn from(_refusal: NoSuchFamily) -> Self {
+        Self::TermsNotLawful
     }
 }

@@ -1,14 +1,13 @@
 // The series that are listed, in the order listed.
 ghost use Rattle.std.specs.Prelude.{◌≡◌, ℕ, ◌+◌, ◌<◌, ◌≤◌, true, IfOk, Ok, nat_lt, slice_index_or, unsigned_abs};
-ghost use Rattle.book.specs.Entries.{side_lawful};
-ghost use Rattle.house.specs.Calls.{demand, with_ruling, with_theory};
+ghost use Rattle.house.specs.Calls.{demand};
 ghost use Rattle.house.specs.Rolls.{changed, is_listed, none_listed, roll, with_listed};
 ghost use Rattle.house.specs.declared.faults.HouseFault.TheVariants.{NoSuchSeries};
-ghost use Rattle.house.specs.Series.{blank, lawful_ruling, lawful_series, new_series};
+ghost use Rattle.house.specs.Series.{blank, lawful_series, new_series};
 
 use crate::faults::HouseFault;
-use crate::series::{Ruling, Series};
-use crate::terms::Terms;
+use crate::series::Series;
+use crate::terms::{Terms, number_under};
 use rows::families::Family;
 use rows::places::Marks;
 
@@ -35,7 +34,8 @@ fn blank() -> Series
     }
 }
 
-// Every series has lawful terms, with a reference to an earlier one if any, and supplied values within the price limit.
+// Every series has lawful terms, with a reference to an earlier one if any, and supplied values within the price limit. The
+// slots are an array with a count, since nothing here allocates; a vector within an array would ask for a default series.
 #[derive(Drop)]
 pub struct Listed {
     slots: [Series; 32],
@@ -69,10 +69,9 @@ impl Listed {
         ensures value { result ≡ slice_index_or self.now.slots n blank }
         ensures lawful { lawful_series n result ≡ true }
     {
-        if n < 32 {
-            self.slots[usize::from(n)]
-        } else {
-            blank()
+        match self.slots.get(usize::from(n)) {
+            Some(series) => *series,
+            None => blank(),
         }
     }
 
@@ -81,19 +80,14 @@ impl Listed {
         ensures value { result ≡ demand (is_listed self.now.count series) NoSuchSeries (Ok (unsigned_abs series)) }
         ensures listed { IfOk result (λ n. n < self.now.count) }
     {
-        if (0 <= series) & (series < i64::from(self.count)) {
-            Ok(series as u8)
-        } else {
-            Err(HouseFault::NoSuchSeries)
-        }
+        number_under(series, self.count).ok_or(HouseFault::NoSuchSeries)
     }
 
     // A listed series.
     pub(crate) fn series(&self, series: i64) -> Result<Series, HouseFault>
         ensures { result ≡ demand (is_listed self.now.count series) NoSuchSeries (Ok (slice_index_or self.now.slots (unsigned_abs series) blank)) }
     {
-        let number = self.find(series)?;
-        Ok(self.slots[usize::from(number)])
+        Ok(self.get(self.find(series)?))
     }
 
     // Lists a series by the next number.
@@ -111,31 +105,11 @@ impl Listed {
     }
 
     // Changes a listed series.
-    fn put(&mut self, n: u8, series: Series)
+    pub(crate) fn put(&mut self, n: u8, series: Series)
         requires listed { n < self.old.count }
         requires lawful { lawful_series n series ≡ true }
         ensures { roll self.new.count self.new.slots ≡ changed n series (roll self.old.count self.old.slots) }
     {
         self.slots[usize::from(n)] = series;
-    }
-
-    pub(crate) fn set_theory(&mut self, n: u8, value: Option<i64>)
-        requires listed { n < self.old.count }
-        requires lawful { side_lawful value ≡ true }
-        ensures { roll self.new.count self.new.slots ≡ changed n (with_theory value (slice_index_or self.old.slots n blank)) (roll self.old.count self.old.slots) }
-    {
-        let mut series = self.get(n);
-        series.theory = value;
-        self.put(n, series);
-    }
-
-    pub(crate) fn set_ruling(&mut self, n: u8, ruling: Option<Ruling>)
-        requires listed { n < self.old.count }
-        requires lawful { lawful_ruling ruling ≡ true }
-        ensures { roll self.new.count self.new.slots ≡ changed n (with_ruling ruling (slice_index_or self.old.slots n blank)) (roll self.old.count self.old.slots) }
-    {
-        let mut series = self.get(n);
-        series.ruling = ruling;
-        self.put(n, series);
     }
 }

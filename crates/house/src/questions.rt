@@ -10,7 +10,7 @@ use crate::answers::Settlement;
 use crate::faults::HouseFault;
 use crate::houses::House;
 use crate::phases::Phase;
-use crate::settling::answered;
+use crate::settling::{Answer, Asked};
 use book::books::Book;
 use ladders::sets::LadderSet;
 use rows::places::Edition;
@@ -19,28 +19,33 @@ use rows::places::Edition;
 fn is_open(phase: Phase, edition: Edition) -> bool
     ensures { result ≡ is_open phase edition }
 {
-    match (phase, edition) {
-        (Phase::Trading, Edition::Morning) => true,
-        (Phase::Closed, _) => true,
-        _ => false,
-    }
+    matches!(
+        (phase, edition),
+        (Phase::Trading, Edition::Morning) | (Phase::Closed, _)
+    )
 }
 
 impl<L: LadderSet> House<L> {
     // The answer for a series, by way of its reference, which is an earlier series.
-    fn answer<B: Book>(&self, book: &B, number: u8, edition: Edition) -> Result<Settlement, u8>
+    fn answer<B: Book>(&self, book: &B, number: u8, edition: Edition) -> Answer
         ensures value { result ≡ settled_at (L.LadderSet.lawful self.now.set) edition (state self.now) (B.Book.meaning book.now) number }
         ensures reach { AnswerInReach number result }
     {
         let series = self.listed.get(number);
-        let reference = series.terms.reference;
-        match reference {
-            Some(earlier) => {
-                let before = self.answer(book, earlier, edition);
-                answered(&self.set, book, number, &series, edition, Some(before))
-            }
-            None => answered(&self.set, book, number, &series, edition, None),
-        }
+        // No `map`: the call in a closure would have no measure.
+        let reference = match series.terms.reference {
+            Some(earlier) => Some(self.answer(book, earlier, edition)),
+            None => None,
+        };
+        let asked = Asked {
+            set: &self.set,
+            book,
+            number,
+            series,
+            edition,
+            reference,
+        };
+        asked.answer()
     }
 
     // The answer to the question, or the refusal that comes before it.
@@ -56,10 +61,8 @@ impl<L: LadderSet> House<L> {
             return Err(HouseFault::WrongPhase);
         }
         let number = self.listed.find(series)?;
-        match self.answer(book, number, edition) {
-            Ok(settlement) => Ok(settlement),
-            Err(origin) => Err(HouseFault::NoPrice(origin)),
-        }
+        self.answer(book, number, edition)
+            .map_err(HouseFault::NoPrice)
     }
 
     // The settlement price of a series in an edition, or the origin of its refusal. House and book are only read.

@@ -1,5 +1,5 @@
 // What is agreed of a series when it is listed.
-ghost use Rattle.std.specs.Prelude.{◌≡◌, true, unsigned_abs};
+ghost use Rattle.std.specs.Prelude.{◌≡◌, true, if◌then◌else◌, Some, None, unsigned_abs};
 ghost use Rattle.house.specs.Terms.{checked, follows, is_ladder, lawful_reference, lawful_spread, lawful_terms, may_refer, must_refer, natural_if};
 
 use crate::faults::HouseFault;
@@ -44,14 +44,21 @@ fn must_refer(family: Family) -> bool
 fn may_refer(family: Family) -> bool
     ensures { result ≡ may_refer family }
 {
-    must_refer(family) | matches!(family, Family::DeliveredGrain)
+    must_refer(family) | (family == Family::DeliveredGrain)
 }
 
 // Whether a series of the family follows its reference by a spread.
 pub(crate) fn follows(family: Family) -> bool
     ensures { result ≡ follows family }
 {
-    matches!(family, Family::FollowingBond)
+    family == Family::FollowingBond
+}
+
+// A number in 8 bits, if it is one of so many that are numbered from 0.
+pub(crate) fn number_under(v: i64, count: u8) -> Option<u8>
+    ensures { result ≡ (if is_ladder count v then Some (unsigned_abs v) else None) }
+{
+    u8::try_from(v).ok().filter(|n| *n < count)
 }
 
 // Whether the series numbered n may have the reference, which must be an earlier series.
@@ -59,7 +66,7 @@ fn is_lawful_reference(family: Family, n: u8, reference: Option<i64>) -> bool
     ensures { result ≡ lawful_reference family n reference }
 {
     match reference {
-        Some(r) => may_refer(family) & ((0 <= r) & (r < i64::from(n))),
+        Some(r) => may_refer(family) & (0..i64::from(n)).contains(&r),
         None => !must_refer(family),
     }
 }
@@ -67,16 +74,7 @@ fn is_lawful_reference(family: Family, n: u8, reference: Option<i64>) -> bool
 fn is_lawful_spread(family: Family, spread: Option<i64>) -> bool
     ensures { result ≡ lawful_spread family spread }
 {
-    match spread {
-        Some(v) => follows(family) & is_spread(v),
-        None => true,
-    }
-}
-
-fn is_ladder(ladders: u8, ladder: i64) -> bool
-    ensures { result ≡ is_ladder ladders ladder }
-{
-    (0 <= ladder) & (ladder < i64::from(ladders))
+    spread.is_none_or(|v| follows(family) & is_spread(v))
 }
 
 // Whether the series numbered n may have the reference, the previous settlement and the previous spread.
@@ -87,22 +85,11 @@ fn is_lawful_terms(family: Family, n: u8, listing: &Listing) -> bool
     is_lawful_reference(family, n, listing.reference) & previous
 }
 
-// A number under that of some series or ladder, in 8 bits.
-fn short(v: i64, under: u8) -> u8
-    requires { is_ladder under v ≡ true }
-    ensures { result ≡ unsigned_abs v }
-{
-    v as u8
-}
-
 fn short_reference(family: Family, n: u8, reference: Option<i64>) -> Option<u8>
     requires { lawful_reference family n reference ≡ true }
     ensures { result ≡ natural_if reference }
 {
-    match reference {
-        Some(r) => Some(short(r, n)),
-        None => None,
-    }
+    reference.map(|r| r as u8)
 }
 
 impl Listing {
@@ -110,18 +97,14 @@ impl Listing {
     pub(crate) fn checked(&self, n: u8, ladders: u8) -> Result<Terms, HouseFault>
         ensures { result ≡ checked n ladders self.now }
     {
-        let Some(family) = Family::of(self.family) else {
-            return Err(HouseFault::TermsNotLawful);
-        };
-        if !is_ladder(ladders, self.ladder) {
-            return Err(HouseFault::TermsNotLawful);
-        }
+        let family = Family::try_from(self.family)?;
+        let ladder = number_under(self.ladder, ladders).ok_or(HouseFault::TermsNotLawful)?;
         if !is_lawful_terms(family, n, self) {
             return Err(HouseFault::TermsNotLawful);
         }
         Ok(Terms {
             family,
-            ladder: short(self.ladder, ladders),
+            ladder,
             reference: short_reference(family, n, self.reference),
             settlement: self.settlement,
             spread: self.spread,

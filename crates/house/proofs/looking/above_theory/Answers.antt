@@ -4,11 +4,11 @@ use Rattle.house.specs.Found.{above_theory}
 use Rattle.house.proofs.Looked.{above_found}
 use Rattle.house.proofs.looking.above_theory.Goals as goal
 
-pub returns-in-Some : goal.returns-in-Some
-returns-in-Some g c =
+pub returns : goal.returns
+returns g c =
     let P = g.L.LadderSet.lawful c.args.set.now c.args.ladder in
-    let v = c.in-Some.v in
+    let v = c.in_ok-theory.field-0 in
     let fits : SFits w64 v = search rules in
     let said = c.above.ensures in
     let found = simp (to_z-of_z w64 v fits) at said in
-    above_found P (g.met.L.LadderSet.dense c.args.set.now c.args.ladder) v c.above.result found ∙ sym (ap (above_theory P) c.in-Some.is)
+    above_found P (g.met.L.LadderSet.dense c.args.set.now c.args.ladder) v c.above.result found ∙ sym (ap (above_theory P) c.in_ok-theory.was)

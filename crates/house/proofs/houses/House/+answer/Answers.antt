@@ -1,37 +1,27 @@
-use Rattle.std.proofs.Common.{◌≡◌, Some, sym, ap, ◌∙◌, arith}
-use Rattle.house.specs.Answers.{answered, station_of}
+use Rattle.std.proofs.Common.{◌≡◌, ℕ, None, Some, Option, sym, ap, ◌∙◌}
+use Rattle.house.specs.Answers.{answered, settled_at, station_of}
 use Rattle.house.specs.Houses.{state}
-use Rattle.house.proofs.Paths.{earlier, settled_with, short_of_reach}
+use Rattle.house.specs.declared.series.Series.{Series}
+use Rattle.house.proofs.Paths.{of_reference, settled_with}
 use Rattle.house.proofs.houses.House.+answer.Goals as goal
+use Rattle.house.proofs.houses.House.+answer.Goals.{in-Some, in-None}
 
-pub answer-before-requires : goal.answer-before-requires
-answer-before-requires g t c κs within =
-    let l = earlier c.args.number c.get-series.result c.in-Some.earlier c.get-series.ensures.lawful c.in-Some.is in
-    let now : c.args.number ≡ t = c.decreases in
-    (omega arith, within)
-
-pub answered-requires : goal.answered-requires
-answered-requires g t c =
-    let l = earlier c.args.number c.get-series.result c.in-Some.earlier c.get-series.ensures.lawful c.in-Some.is in
-    record {
-      series = c.get-series.ensures.lawful;
-      reference = short_of_reach c.args.number c.in-Some.earlier c.answer-before.result l c.answer-before.ensures.reach;
-    }
-
-pub returns-in-Some : goal.returns-in-Some
-returns-in-Some g t c =
+-- Answered with the answer for the reference, if there is one.
+pub returns-clause-value : goal.returns-clause-value
+returns-clause-value g t c =
     let h = c.args.self.now in
     let s = state h in
     let m = g.B.Book.meaning c.args.book.now in
     let P = g.L.LadderSet.lawful h.set in
     let ed = c.args.edition in
     let n = c.args.number in
-    let series = c.get-series.result in
-    let there = ap (λ x. x.terms.reference) (sym c.get-series.ensures.value) ∙ c.in-Some.is in
-    record {
-      value = c.answered.ensures.value
-          ∙ ap (λ x. answered P ed (station_of n x m) (Some c.answer-before.result)) c.get-series.ensures.value
-          ∙ ap (λ a. answered P ed (station_of n (s.roll.series n) m) (Some a)) c.answer-before.ensures.value
-          ∙ sym (settled_with P ed s m h.listed.lawful n (Some c.in-Some.earlier) there);
-      reach = c.answered.ensures.reach;
-    }
+    let here = c.get-series.ensures.value in
+    let same = ap (λ (x : Series). answered P ed (station_of n x m) c.match-series.reference) here in
+    let by = λ (o : Option ℕ) (told : c.match-series.reference ≡ of_reference (settled_at P ed s m) o) (there : c.get-series.result.terms.reference ≡ o).
+    (ap (answered P ed (station_of n (s.roll.series n) m)) told
+    ∙ sym (settled_with P ed s m h.listed.lawful n o (ap (λ (x : Series). x.terms.reference) (sym here) ∙ there)))
+    in
+    c.answer-2.ensures.value ∙ same ∙ elim c.match-series.branch [
+      | in-Some w ↦ by (Some w.in-Some.earlier) (w.reference-is ∙ ap Some w.answer.ensures.value) w.in-Some.is
+      | in-None w ↦ by None w.reference-is w.in-None.is
+    ]
