@@ -5,7 +5,7 @@ ghost use Rattle.house.specs.Answers.{price_of};
 ghost use Rattle.house.specs.Found.{above_theory, average, finds, less, nearest_theory, quoted};
 ghost use Rattle.house.specs.Reach.{InReachBefore};
 
-use crate::settling::{Asked, price_of};
+use crate::settling::{Question, price_of};
 use book::books::Book;
 use book::marks::{Sides, Values};
 use ladders::rounding::nearest;
@@ -49,7 +49,7 @@ fn less(number: u8, reference: Option<i64>, spread: Option<i64>) -> Option<i64>
     Some(reference? - spread?)
 }
 
-impl<L: LadderSet, B: Book> Asked<'_, L, B> {
+impl<L: LadderSet, B: Book> Question<'_, L, B> {
     // What a step finds, with the figures of the step's window.
     pub(crate) fn find(&self, values: &Values, step: Step) -> Option<i64>
         requires { bounded 30000 values.now ≡ true }

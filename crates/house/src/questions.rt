@@ -10,7 +10,7 @@ use crate::answers::Settlement;
 use crate::faults::HouseFault;
 use crate::houses::House;
 use crate::phases::Phase;
-use crate::settling::{Answer, Asked};
+use crate::settling::{Answer, Question};
 use book::books::Book;
 use ladders::sets::LadderSet;
 use rows::places::Edition;
@@ -37,7 +37,7 @@ impl<L: LadderSet> House<L> {
             Some(earlier) => Some(self.answer(book, earlier, edition)),
             None => None,
         };
-        let asked = Asked {
+        let question = Question {
             set: &self.set,
             book,
             number,
@@ -45,7 +45,7 @@ impl<L: LadderSet> House<L> {
             edition,
             reference,
         };
-        asked.answer()
+        question.answer()
     }
 
     // The answer to the question, or the refusal that comes before it.

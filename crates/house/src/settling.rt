@@ -22,7 +22,7 @@ pub(crate) type Answer = Result<Settlement, u8>;
 
 // A series of which a price is asked, with all that its answer may rest on: the ladders, the book, its number, the edition, and
 // the answer for its reference, if it has one.
-pub(crate) struct Asked<'a, L, B> {
+pub(crate) struct Question<'a, L, B> {
     pub(crate) set: &'a L,
     pub(crate) book: &'a B,
     pub(crate) number: u8,
@@ -34,9 +34,9 @@ pub(crate) struct Asked<'a, L, B> {
 }
 
 // By hand, since a derive would ask that ladders and books can be copied.
-impl<L, B> Copy for Asked<'_, L, B> {}
+impl<L, B> Copy for Question<'_, L, B> {}
 
-impl<L, B> Clone for Asked<'_, L, B> {
+impl<L, B> Clone for Question<'_, L, B> {
     fn clone(&self) -> Result<Self, AllocError> {
         Ok(*self)
     }
@@ -85,7 +85,7 @@ fn origin_of(number: u8, reference: Option<Answer>) -> u8
     }
 }
 
-impl<L: LadderSet, B: Book> Asked<'_, L, B> {
+impl<L: LadderSet, B: Book> Question<'_, L, B> {
     // The places of the row by which the series is settled.
     fn places(&self) -> [Option<Place>; 6]
         ensures { (k : ℕ) → slice_index_or result k None ≡ at (row_of self.now.series self.now.edition) k }

@@ -17,6 +17,7 @@ use Rattle.runs.specs.Readings.{entries, stands}
 use Rattle.runs.specs.Runs.{World, after_run, new_world, taken, world}
 use Rattle.runs.specs.Stations.{NoLater, NotLower, SeriesRaised}
 use Rattle.runs.specs.declared.calls.Call.{Call}
+use Rattle.runs.specs.declared.comparing.Run as runs
 
 -- calls made on a house and a book, over so many ladders with these lawful prices
 pub record Run : Type 0 where
@@ -28,6 +29,10 @@ pub record Run : Type 0 where
 -- on a house over a ladder set with this count and these lawful prices, and a book of this meaning
 abbrev pub run_of : {L : Type 0} → (L → ℕ) → (L → ℕ → ℤ → Bool) → House L → Ledger → List Call → Run
 run_of size lawful h m calls = record { ladders = size h.set; lawful = lawful h.set; start = world h m; calls = calls }
+
+-- as it is handed to a call
+abbrev pub run_in : {L B : Type 0} → (L → ℕ) → (L → ℕ → ℤ → Bool) → (B → Ledger) → runs.Run L B → Run
+run_in size lawful meaning r = run_of size lawful r.house.now (meaning r.book.now) r.calls.now
 
 -- what stands in the end, and the calls that were not refused
 abbrev pub end : Run → World

@@ -1,6 +1,6 @@
 // Two runs, whatever the makes of the ladder sets and of the books, and the same question asked after each.
 ghost use Rattle.std.specs.Prelude.{◌≡◌, min, length};
-ghost use Rattle.runs.specs.Laws.{Alike, Comparable, Laws, answer_in, new_run, run_of};
+ghost use Rattle.runs.specs.Laws.{Alike, Comparable, Laws, answer_in, new_run, run_in};
 
 use crate::calls::Call;
 use crate::performing::run;
@@ -15,41 +15,40 @@ use ladders::sets::LadderSet;
 use rows::places::Edition;
 use tape::tapes::Tape;
 
-// Makes the calls, and then asks.
-fn run_and_ask<L: LadderSet, B: Book>(
-    house: &mut House<L>,
-    book: &mut B,
-    calls: &[Call],
-    series: i64,
-    edition: Edition,
-) -> Result<Settlement, HouseFault>
-    ensures { result ≡ answer_in (run_of L.LadderSet.size L.LadderSet.lawful house.old (B.Book.meaning book.old) calls.now) series edition }
-{
-    run(house, book, calls);
-    house.settle(book, series, edition)
+// A run: a house, a book, and the calls to be made on them.
+pub struct Run<'a, L, B> {
+    pub house: &'a mut House<L>,
+    pub book: &'a mut B,
+    pub calls: &'a [Call],
 }
 
-// Both runs, each with its own calls, and the question after each.
+impl<L: LadderSet, B: Book> Run<'_, L, B> {
+    // Makes the calls, and then asks.
+    fn make_and_ask(self, series: i64, edition: Edition) -> Result<Settlement, HouseFault>
+        ensures { result ≡ answer_in (run_in L.LadderSet.size L.LadderSet.lawful B.Book.meaning self.entry) series edition }
+    {
+        let Run { house, book, calls } = self;
+        run(house, book, calls);
+        house.settle(book, series, edition)
+    }
+}
+
+// Both runs, and the question after each.
 fn ask_both<K: LadderSet, J: Book, L: LadderSet, B: Book>(
-    first: &mut House<K>,
-    near: &mut J,
-    calls: &[Call],
-    second: &mut House<L>,
-    far: &mut B,
-    others: &[Call],
+    first: Run<'_, K, J>,
+    second: Run<'_, L, B>,
     series: i64,
     edition: Edition,
 ) -> (
     Result<Settlement, HouseFault>,
     Result<Settlement, HouseFault>,
 )
-    ensures one { result.0 ≡ answer_in (run_of K.LadderSet.size K.LadderSet.lawful first.old (J.Book.meaning near.old) calls.now) series edition }
-    ensures other { result.1 ≡ answer_in (run_of L.LadderSet.size L.LadderSet.lawful second.old (B.Book.meaning far.old) others.now) series edition }
+    ensures one { result.0 ≡ answer_in (run_in K.LadderSet.size K.LadderSet.lawful J.Book.meaning first.entry) series edition }
+    ensures other { result.1 ≡ answer_in (run_in L.LadderSet.size L.LadderSet.lawful B.Book.meaning second.entry) series edition }
 {
-    (
-        run_and_ask(first, near, calls, series, edition),
-        run_and_ask(second, far, others, series, edition),
-    )
+    let one = first.make_and_ask(series, edition);
+    let other = second.make_and_ask(series, edition);
+    (one, other)
 }
 
 // Performs two runs and asks both the same. If the runs can be compared (`Comparable`: new houses on empty books of one day,
@@ -59,21 +58,17 @@ fn ask_both<K: LadderSet, J: Book, L: LadderSet, B: Book>(
 //   no lower a price, or both are refused from the same origin;
 // - if only trades, auctions or spreads were added there, what settled settles, at the same place or an earlier one.
 pub fn compare<K: LadderSet, J: Book, L: LadderSet, B: Book>(
-    first: &mut House<K>,
-    near: &mut J,
-    calls: &[Call],
-    second: &mut House<L>,
-    far: &mut B,
-    others: &[Call],
+    first: Run<'_, K, J>,
+    second: Run<'_, L, B>,
     series: i64,
     edition: Edition,
 ) -> (
     Result<Settlement, HouseFault>,
     Result<Settlement, HouseFault>,
 )
-    ensures laws { Laws (Comparable (run_of K.LadderSet.size K.LadderSet.lawful first.old (J.Book.meaning near.old) calls.now) (run_of L.LadderSet.size L.LadderSet.lawful second.old (B.Book.meaning far.old) others.now) series edition) (run_of K.LadderSet.size K.LadderSet.lawful first.old (J.Book.meaning near.old) calls.now) (run_of L.LadderSet.size L.LadderSet.lawful second.old (B.Book.meaning far.old) others.now) series edition result.0 result.1 }
+    ensures laws { Laws (Comparable (run_in K.LadderSet.size K.LadderSet.lawful J.Book.meaning first.entry) (run_in L.LadderSet.size L.LadderSet.lawful B.Book.meaning second.entry) series edition) (run_in K.LadderSet.size K.LadderSet.lawful J.Book.meaning first.entry) (run_in L.LadderSet.size L.LadderSet.lawful B.Book.meaning second.entry) series edition result.0 result.1 }
 {
-    ask_both(first, near, calls, second, far, others, series, edition)
+    ask_both(first, second, series, edition)
 }
 
 // The same, of runs that this call begins itself: one on a board of the capacity stated, one on a tape in the places lent.
@@ -98,7 +93,15 @@ pub fn compare_makes<K: LadderSet + Drop, L: LadderSet + Drop>(
     let mut board = Board::new(day, capacity);
     let mut other = House::new(second);
     let mut tape = Tape::new(day, places);
-    compare(
-        &mut house, &mut board, calls, &mut other, &mut tape, others, series, edition,
-    )
+    let one = Run {
+        house: &mut house,
+        book: &mut board,
+        calls,
+    };
+    let other = Run {
+        house: &mut other,
+        book: &mut tape,
+        calls: others,
+    };
+    compare(one, other, series, edition)
 }

@@ -1,44 +1,14 @@
 // Calls handed to a house and its book.
 ghost use Rattle.std.specs.Prelude.{◌≡◌, ℕ};
 ghost use Rattle.book.specs.declared.days.Day.{Day};
-ghost use Rattle.house.specs.Calls.{told};
-ghost use Rattle.runs.specs.Runs.{after_run, as_listed, as_settled, new_world, next, reply, taken, world};
+ghost use Rattle.runs.specs.Runs.{after_run, new_world, next, reply, taken, world};
 ghost use Rattle.runs.specs.Told.{Told};
-ghost use Rattle.runs.specs.declared.calls.Reply.TheVariants as replies;
 
 use crate::calls::{Call, Reply};
 use book::books::Book;
-use house::answers::Settlement;
 use house::faults::HouseFault;
 use house::houses::House;
 use ladders::sets::LadderSet;
-
-fn done(res: Result<(), HouseFault>) -> Result<Reply, HouseFault>
-    ensures { result ≡ told replies.Done res }
-{
-    match res {
-        Ok(()) => Ok(Reply::Done),
-        Err(fault) => Err(fault),
-    }
-}
-
-fn listed(res: Result<u8, HouseFault>) -> Result<Reply, HouseFault>
-    ensures { result ≡ as_listed res }
-{
-    match res {
-        Ok(number) => Ok(Reply::Listed(number)),
-        Err(fault) => Err(fault),
-    }
-}
-
-fn settled(res: Result<Settlement, HouseFault>) -> Result<Reply, HouseFault>
-    ensures { result ≡ as_settled res }
-{
-    match res {
-        Ok(settlement) => Ok(Reply::Settled(settlement)),
-        Err(fault) => Err(fault),
-    }
-}
 
 // Makes one call.
 pub fn perform<L: LadderSet, B: Book>(
@@ -51,16 +21,20 @@ pub fn perform<L: LadderSet, B: Book>(
     ensures set { house.new.set ≡ house.old.set }
 {
     match *call {
-        Call::List(listing) => listed(house.list(listing)),
-        Call::Ring(bell) => done(house.ring(bell)),
-        Call::Enter(entry) => done(house.enter(book, entry)),
-        Call::SetTheory { series, value } => done(house.set_theory(series, value)),
+        Call::List(listing) => house.list(listing).map(Reply::Listed),
+        Call::Ring(bell) => house.ring(bell).map(|()| Reply::Done),
+        Call::Enter(entry) => house.enter(book, entry).map(|()| Reply::Done),
+        Call::SetTheory { series, value } => {
+            house.set_theory(series, value).map(|()| Reply::Done)
+        }
         Call::SetRuling {
             series,
             value,
             first,
-        } => done(house.set_ruling(series, value, first)),
-        Call::Settle { series, edition } => settled(house.settle(book, series, edition)),
+        } => house.set_ruling(series, value, first).map(|()| Reply::Done),
+        Call::Settle { series, edition } => {
+            house.settle(book, series, edition).map(Reply::Settled)
+        }
     }
 }
 

@@ -2,15 +2,15 @@ use Rattle.std.proofs.Common.{Result, sym, ap, ◌∙◌, subst, w64}
 use Rattle.std.proofs.lemmas.Int.{to_z-of_z}
 use Rattle.house.specs.declared.answers.Settlement.{Settlement}
 use Rattle.house.specs.declared.faults.HouseFault.{HouseFault}
-use Rattle.runs.specs.Laws.{Comparable, Laws, answer_in, run_of}
+use Rattle.runs.specs.Laws.{Comparable, Laws, answer_in, run_in}
 use Rattle.runs.proofs.Compared.{laws}
 use Rattle.runs.proofs.comparing.compare.Goals as goal
 
 pub returns : goal.returns
 returns g c =
     let x = c.args in
-    let a = run_of g.K.LadderSet.size g.K.LadderSet.lawful x.first.now (g.J.Book.meaning x.near.now) x.calls.now in
-    let b = run_of g.L.LadderSet.size g.L.LadderSet.lawful x.second.now (g.B.Book.meaning x.far.now) x.others.now in
+    let a = run_in g.K.LadderSet.size g.K.LadderSet.lawful g.J.Book.meaning x.first in
+    let b = run_in g.L.LadderSet.size g.L.LadderSet.lawful g.B.Book.meaning x.second in
     let n = x.series in
     let ed = x.edition in
     let plain = to_z-of_z w64 n c.ranges.series in
@@ -19,5 +19,5 @@ returns g c =
     record {
       laws = subst (λ (p : Result Settlement HouseFault). Laws (Comparable a b n ed) a b n ed p c.ask_both.result.1) (sym one)
           (subst (λ (q : Result Settlement HouseFault). Laws (Comparable a b n ed) a b n ed (answer_in a n ed) q) (sym other)
-          (laws a b n ed (g.met.K.LadderSet.dense x.first.now.set)));
+          (laws a b n ed (g.met.K.LadderSet.dense x.first.house.now.set)));
     }

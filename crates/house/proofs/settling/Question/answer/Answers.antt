@@ -3,7 +3,7 @@ use Rattle.std.proofs.lemmas.Int.{to_z-of_z}
 use Rattle.rows.specs.declared.steps.Step.TheVariants.{Ruling}
 use Rattle.house.specs.Reach.{reach}
 use Rattle.house.proofs.Looked.{ruled_at_once}
-use Rattle.house.proofs.settling.Asked.answer.Goals as goal
+use Rattle.house.proofs.settling.Question.answer.Goals as goal
 
 pub returns-in-Some-clause-reach : goal.returns-in-Some-clause-reach
 returns-in-Some-clause-reach g c =

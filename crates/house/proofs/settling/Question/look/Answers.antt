@@ -2,7 +2,7 @@ use Rattle.std.proofs.Common.{sym, subst}
 use Rattle.house.specs.Answers.{price_of}
 use Rattle.house.specs.Reach.{InReach}
 use Rattle.house.proofs.Looked.{finds_reach}
-use Rattle.house.proofs.settling.Asked.look.Goals as goal
+use Rattle.house.proofs.settling.Question.look.Goals as goal
 
 pub returns-clause-reach : goal.returns-clause-reach
 returns-clause-reach g c =

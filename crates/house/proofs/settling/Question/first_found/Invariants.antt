@@ -1,7 +1,7 @@
 use Rattle.std.proofs.Common.{◌≡◌, ◌+◌, drop}
 use Rattle.house.specs.Answers.{first_found, price_of, row_of, station_of}
 use Rattle.house.specs.Found.{found}
-use Rattle.house.proofs.settling.Asked.first_found.Given as goal
+use Rattle.house.proofs.settling.Question.first_found.Given as goal
 
 -- the whole row finds what the places from here on find
 abbrev pub invariant-loop-position : goal.invariant-loop-position

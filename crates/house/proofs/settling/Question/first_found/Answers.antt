@@ -5,7 +5,7 @@ use Rattle.rows.specs.Chosen.{chosen}
 use Rattle.house.specs.Answers.{first_found, price_of, row_of, station_of}
 use Rattle.house.specs.Found.{found}
 use Rattle.house.proofs.RowWalk.{found_here, found_later, found_not, found_nowhere}
-use Rattle.house.proofs.settling.Asked.first_found.Goals as goal
+use Rattle.house.proofs.settling.Question.first_found.Goals as goal
 
 pub returns-in_err-place-clause-value : goal.returns-in_err-place-clause-value
 returns-in_err-place-clause-value g c =

@@ -6,7 +6,7 @@ use Rattle.rows.proofs.RowTest.{row_lawful}
 use Rattle.rows.specs.Chosen.{chosen}
 use Rattle.house.specs.Answers.{row_of}
 use Rattle.house.proofs.RowWalk.{any_refers, refers_if}
-use Rattle.house.proofs.settling.Asked.some_refers.Goals as goal
+use Rattle.house.proofs.settling.Question.some_refers.Goals as goal
 
 pub returns : goal.returns
 returns g c =
