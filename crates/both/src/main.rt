@@ -66,10 +66,8 @@ fn read(rt: &HostRuntime) -> anyhow::Result<(Opening, Vec<Call>)> {
             calls.push(call_of(heap, line.as_str())?)?;
         }
     }
-    match opening {
-        Some(opening) => Ok((opening, calls)),
-        None => Err(anyhow!("no day line")),
-    }
+    let opening = opening.ok_or(anyhow!("no day line"))?;
+    Ok((opening, calls))
 }
 
 // Makes every call on both and prints the replies, by the line of the call. The answer is how many series the first house
@@ -122,14 +120,10 @@ fn answer_question(
     calls: &[Call],
     (series, edition): (i64, Edition),
 ) -> anyhow::Result<()> {
-    let name = match edition {
-        Edition::Close => "close",
-        Edition::Morning => "morning",
-    };
     match sets(ticks) {
         Ok(makes) => {
             let (a, b) = ask(day, makes, calls, series, edition);
-            println!(rt; "series {series} {name}: {} | {}", Told(a), Told(b))?;
+            println!(rt; "series {series} {edition}: {} | {}", Told(a), Told(b))?;
             Ok(())
         }
         Err(fault) => refuse(rt, fault.number()),

@@ -31,10 +31,7 @@ fn numbers(heap: Global, fields: &str) -> anyhow::Result<Vec<Option<i64>>> {
 fn ticks_of(heap: Global, numbers: &[Option<i64>]) -> anyhow::Result<Vec<i64>> {
     let mut ticks = Vec::new(heap);
     for number in numbers {
-        match number {
-            Some(tick) => ticks.push(*tick)?,
-            None => return Err(anyhow!("a tick is missing")),
-        }
+        ticks.push(number.ok_or(anyhow!("a tick is missing"))?)?;
     }
     if ticks.is_empty() || ticks.len() > 4 {
         return Err(anyhow!("a day line has one to four ticks"));

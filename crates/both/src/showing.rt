@@ -43,10 +43,8 @@ impl fmt::Display for Told {
     fn fmt<W: fmt::Write>(&self, f: &mut fmt::Formatter<W>) -> fmt::Result {
         match self.0 {
             Ok(found) => {
-                let price = found.price;
-                let letter = char::from(found.step.letter());
-                let place = found.place;
-                write!(f, "price {price} {letter} {place}")
+                let Settlement { price, step, place } = found;
+                write!(f, "price {price} {step} {place}")
             }
             Err(fault) => write!(f, "{}", Refusal(fault)),
         }

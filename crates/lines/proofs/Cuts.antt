@@ -1,6 +1,10 @@
 -- Cutting a line at its spaces, and putting it together again.
-use Rattle.std.proofs.Common.{◌≡◌, ℕ, zero, suc, ◌+◌, ◌-◌, ◌<◌, ◌≤◌, Bool, true, false, cond, eqb, ◌⊎◌, List, [], ◌∷◌, ◌++◌, length, get_or, take, drop, sym, refl, ap, ◌∙◌, inl, inr, ⊎_elim, add-one, arith, drop-cons, eq-eqb, ne_eqb, eqb-true}
-use Rattle.std.proofs.lemmas.List.{get_or-drop, drop-drop, length-drop}
+use Rattle.std.proofs.Common.{◌≡◌, ℕ, zero, suc, ◌+◌, ◌-◌, ◌<◌, ◌≤◌, Bool, true, false, cond, not, eqb, ◌⊎◌, List, [], ◌∷◌, ◌++◌, length, get_or, take, drop, sym, refl, ap, ◌∙◌, inl, inr, ⊎_elim, add-one, arith, drop-cons, eq-eqb, ne_eqb, eqb-true}
+use Rattle.std.specs.List.{position_or_len}
+use Rattle.std.proofs.lemmas.Bool.{true≢false}
+use Rattle.std.proofs.lemmas.Bool.Decides.{leb_tells}
+use Rattle.std.proofs.lemmas.List.Sums.{fails_before_first, passes_at_first, prefix_len-le-length}
+use Rattle.std.proofs.lemmas.List.{drop-drop, length-drop}
 use Rattle.lines.specs.Fields.{spaced, trailed, onto, fields, behind, left_at}
 
 -- a field's end: no space before it, and a space or the line's end at it
@@ -14,15 +18,24 @@ field_cut (x ∷ xs) (suc k) h clean end =
     (ap (onto x)
     (field_cut xs k (omega arith) (λ j l. clean (suc j) (omega arith)) (⊎_elim (λ e. inl (omega arith)) (λ e. inr e) end)))
 
-pub field_cut_at : (line : List ℕ) (start r : ℕ) → start ≤ r → r ≤ length line → ((j : ℕ) → start ≤ j → j < r → get_or line j 0 ≡ 32 → ⊥) → (r ≡ length line) ⊎ (get_or line r 0 ≡ 32) → fields (drop start line) ≡ take (r - start) (drop start line) ∷ left_at line r
-field_cut_at line start r h w clean end =
-    let l : length (drop start line) ≡ length line - start = length-drop start line in
-    let s : start + (r - start) ≡ r = omega arith in
-    let d : drop (r - start) (drop start line) ≡ drop r line = drop-drop (r - start) start line ∙ ap (λ n. drop n line) s in
-    field_cut (drop start line) (r - start) (omega arith)
-    (λ j b e. clean (start + j) (omega arith) (omega arith) (sym (get_or-drop start line j 0) ∙ e))
-    (⊎_elim (λ e. inl (omega arith)) (λ e. inr (get_or-drop start line (r - start) 0 ∙ ap (λ n. get_or line n 0) s ∙ e)) end)
-    ∙ ap (λ xs. take (r - start) (drop start line) ∷ behind xs) d
+-- a field from the start ends at the first space behind it, or with the line
+pub field_cut_at : (line : List ℕ) (start p : ℕ) → start ≤ length line → p ≡ position_or_len (λ b. eqb b 32) (drop start line) → (start + p ≤ length line) × (fields (drop start line) ≡ take (start + p - start) (drop start line) ∷ left_at line (start + p))
+field_cut_at line start p h is =
+    let xs = drop start line in
+    let test : ℕ → Bool = λ b. eqb b 32 in
+    let long : length xs ≡ length line - start = length-drop start line in
+    let q = position_or_len test xs in
+    let within : q ≤ length xs = prefix_len-le-length (λ b. not (test b)) xs in
+    let same : start + p - start ≡ q = omega arith in
+    let on : drop q xs ≡ drop (start + p) line = drop-drop q start line ∙ ap (λ n. drop n line) (omega arith) in (
+      omega arith,
+      field_cut xs q within (λ j l e. true≢false (sym (eq-eqb (get_or xs j 0) 32 e) ∙ fails_before_first test xs j 0 l)) (at_end xs q within (λ l. eqb-true (get_or xs q 0) 32 (passes_at_first test xs 0 l)))
+          ∙ ap (λ ys. take q xs ∷ behind ys) on
+          ∙ ap (λ n. take n xs ∷ left_at line (start + p)) (sym same),
+    )
+  where
+    at_end : (ys : List ℕ) (n : ℕ) → n ≤ length ys → (n < length ys → get_or ys n 0 ≡ 32) → (n ≡ length ys) ⊎ (get_or ys n 0 ≡ 32)
+    at_end ys n le space = ⊎_elim (λ p. inl (omega (arith, p.1))) (λ p. inr (space p.1)) (leb_tells (length ys) n)
 
 -- what follows the space at a field's end
 pub left_cut : (line : List ℕ) (at : ℕ) → at < length line → left_at line at ≡ fields (drop (at + 1) line)

@@ -1,4 +1,6 @@
 // A line read by the values of its command.
+#![tactic(auto, using(crate::proofs::Made::missed_call))]
+
 ghost use Rattle.std.specs.Prelude.{◌≡◌};
 ghost use Rattle.lines.specs.Reading.{ReadFrom};
 ghost use Rattle.lines.specs.Spelled.{Alone, FieldsEnd, Longest, Named, OnePlace, Parsed, Within, WritingsApart, values};
@@ -71,6 +73,8 @@ fn read_bell(reader: &mut Reader<'_>) -> Result<LineCall, NotRead>
     Ok(LineCall::Call(Call::Ring(bell)))
 }
 
+// Trades, auctions and legs one by one: a function that took the kind as a closure could only promise by way of the closure,
+// and not that the line is a trade's.
 fn read_trade(reader: &mut Reader<'_>) -> Result<LineCall, NotRead>
     ensures { ReadFrom values (Named commands.Trade) reader.old result }
 {

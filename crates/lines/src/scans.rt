@@ -11,12 +11,11 @@ fn field_end(line: &[u8], start: usize) -> usize
     ensures within { (start ≤ result) × (result ≤ length line.now) }
     ensures cut { fields (drop start line.now) ≡ take (result - start) (drop start line.now) ∷ left_at line.now result }
 {
-    for at in start..line.len() {
-        if let ByteClass::Space = class_of(line[at]) {
-            return at;
-        }
-    }
-    line.len()
+    let rest = &line[start..];
+    let spaces = rest
+        .iter()
+        .position(|byte| matches!(class_of(*byte), ByteClass::Space));
+    start + spaces.unwrap_or(rest.len())
 }
 
 impl<'a> Reader<'a> {

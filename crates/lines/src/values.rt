@@ -6,6 +6,8 @@ ghost use Rattle.std.proofs.Common.{rules};
 
 use crate::numerals::number;
 
+// A trait of its own, since TryFrom of bytes could not be implemented here for numbers and marks, and since it also says how a
+// value is written: reading is proved the inverse of that.
 pub trait FromField: Sized {
     // How a value is written, and which values may be.
     ghost spelt: { Self → List ℕ };
@@ -33,15 +35,11 @@ impl FromField for i64 {
 
     fn from_field(field: &[u8]) -> Option<i64> {
         match field {
-            [b'-', digits @ ..] => match number(digits) {
-                Some(0) => None,
-                Some(n) => Some(-(n as i64)),
-                None => None,
+            [b'-', digits @ ..] => match number(digits)? {
+                0 => None,
+                n => Some(-(n as i64)),
             },
-            _ => match number(field) {
-                Some(n) => Some(n as i64),
-                None => None,
-            },
+            _ => Some(number(field)? as i64),
         }
     }
 }
@@ -58,10 +56,7 @@ impl FromField for Option<i64> {
     fn from_field(field: &[u8]) -> Option<Option<i64>> {
         match field {
             [b'-'] => Some(None),
-            _ => match i64::from_field(field) {
-                Some(value) => Some(Some(value)),
-                None => None,
-            },
+            _ => Some(Some(i64::from_field(field)?)),
         }
     }
 }
