@@ -3,11 +3,8 @@ ghost use Rattle.std.specs.Prelude.{◌≡◌, ℕ, ◌≤◌, Bool, true, false
 ghost use Rattle.ladders.specs.Prices.{within};
 ghost use Rattle.ladders.specs.Rounding.{Above, Below, Near};
 ghost use Rattle.ladders.specs.Faults.{size_fault};
-ghost use Rattle.ladders.specs.Makes.{even, rungs};
 ghost use Rattle.ladders.specs.Sets.{lawful_at, set_fault};
 ghost use Rattle.ladders.specs.InSet.{lacks, set_is_near};
-ghost use Rattle.ladders.specs.ToTick.{tick_is_near};
-ghost use Rattle.ladders.specs.InBand.{ladder_is_near};
 
 use crate::describing::Describes;
 use crate::faults::LadderFault;
@@ -84,72 +81,34 @@ impl<L: Ladder> SetOf<L> {
         }
         Ok(SetOf { ladders, count })
     }
+}
 
-    // The least lawful price of a ladder not under v, for v within the price limit.
-    fn up(&self, ladder: u8, v: i64) -> Option<i64>
-        ensures { MatchOption result (within v ≡ false) (λ p. (within v ≡ true) × Above (lawful_at L.Ladder.holds (take self.now.count self.now.ladders) ladder) v p) }
-    {
+impl<L: Ladder> LadderSet for SetOf<L> {
+    ghost size = { λ s. s.count };
+
+    ghost lawful = { λ s. lawful_at L.holds (take s.count s.ladders) };
+
+    ghost counted = { λ s. s.counted };
+
+    ghost lacking = { λ s n v h. lacks L.holds s.ladders s.count n h v };
+
+    ghost dense = { λ s n z. set_is_near L.holds L.dense (take s.count s.ladders) n z };
+
+    fn count(&self) -> u8 {
+        self.count
+    }
+
+    fn above(&self, ladder: u8, v: i64) -> Option<i64> {
         if ladder < self.count {
             return self.ladders[ladder as usize].above(v);
         }
         whole(v)
     }
 
-    // The greatest lawful price of a ladder not over v, for v within the price limit.
-    fn down(&self, ladder: u8, v: i64) -> Option<i64>
-        ensures { MatchOption result (within v ≡ false) (λ p. (within v ≡ true) × Below (lawful_at L.Ladder.holds (take self.now.count self.now.ladders) ladder) v p) }
-    {
+    fn below(&self, ladder: u8, v: i64) -> Option<i64> {
         if ladder < self.count {
             return self.ladders[ladder as usize].below(v);
         }
         whole(v)
-    }
-}
-
-impl LadderSet for SetOf<Tick> {
-    ghost size = { λ s. s.count };
-
-    ghost lawful = { λ s. lawful_at even (take s.count s.ladders) };
-
-    ghost counted = { λ s. s.counted };
-
-    ghost lacking = { λ s n v h. lacks even s.ladders s.count n h v };
-
-    ghost dense = { λ s n z. set_is_near even (λ t. tick_is_near t.points t.lawful.0 t.lawful.1) (take s.count s.ladders) n z };
-
-    fn count(&self) -> u8 {
-        self.count
-    }
-
-    fn above(&self, ladder: u8, v: i64) -> Option<i64> {
-        self.up(ladder, v)
-    }
-
-    fn below(&self, ladder: u8, v: i64) -> Option<i64> {
-        self.down(ladder, v)
-    }
-}
-
-impl LadderSet for SetOf<SteppedLadder> {
-    ghost size = { λ s. s.count };
-
-    ghost lawful = { λ s. lawful_at rungs (take s.count s.ladders) };
-
-    ghost counted = { λ s. s.counted };
-
-    ghost lacking = { λ s n v h. lacks rungs s.ladders s.count n h v };
-
-    ghost dense = { λ s n z. set_is_near rungs (λ t. ladder_is_near t.first (take t.count t.later) t.lawful) (take s.count s.ladders) n z };
-
-    fn count(&self) -> u8 {
-        self.count
-    }
-
-    fn above(&self, ladder: u8, v: i64) -> Option<i64> {
-        self.up(ladder, v)
-    }
-
-    fn below(&self, ladder: u8, v: i64) -> Option<i64> {
-        self.down(ladder, v)
     }
 }
