@@ -21,10 +21,7 @@ pub struct Rounded {
 pub fn is_lawful<S: LadderSet>(set: &S, ladder: u8, price: i64) -> bool
     ensures { result ≡ (within price && S.lawful set.now ladder price) }
 {
-    match set.below(ladder, price) {
-        Some(p) => p == price,
-        None => false,
-    }
+    set.below(ladder, price) == Some(price)
 }
 
 // Whether a fraction has a denominator and lies within the price limit.
@@ -33,7 +30,7 @@ fn is_inside(fraction: (i64, u32)) -> bool
 {
     let (n, d) = fraction;
     let most = LIMIT * i64::from(d);
-    (0 < d) & ((-most <= n) & (n <= most))
+    0 < d && (-most..=most).contains(&n)
 }
 
 // The whole numbers on either side of a fraction, equal where it is whole.
@@ -96,8 +93,5 @@ pub fn nearest<S: LadderSet>(set: &S, ladder: u8, fraction: (i64, u32)) -> Optio
     ensures rule { MatchOption result (inside fraction.0 fraction.1 ≡ false) (λ p. (inside fraction.0 fraction.1 ≡ true) × Nearest (S.lawful set.now ladder) fraction.0 fraction.1 p) }
     ensures value { result ≡ nearest_price (S.lawful set.now ladder) fraction.0 fraction.1 }
 {
-    match round(set, ladder, fraction) {
-        Some(r) => Some(r.nearest),
-        None => None,
-    }
+    round(set, ladder, fraction).map(|r| r.nearest)
 }

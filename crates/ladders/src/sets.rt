@@ -66,7 +66,7 @@ fn checked_count(count: usize) -> Result<u8, LadderFault>
 fn whole(v: i64) -> Option<i64>
     ensures { result ≡ (if within v then Some v else None) }
 {
-    if is_within(v) { Some(v) } else { None }
+    is_within(v).then_some(v)
 }
 
 impl<L: Ladder> SetOf<L> {

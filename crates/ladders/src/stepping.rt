@@ -23,10 +23,7 @@ pub struct SteppedLadder {
 fn is_over(start: i64, last: Option<i64>) -> bool
     ensures { result ≡ rises last start }
 {
-    match last {
-        Some(s) => s < start,
-        None => true,
-    }
+    last.is_none_or(|s| s < start)
 }
 
 // The start of a band of the tick `own`, which follows a band that starts at `last` and has the tick `before`.
@@ -38,16 +35,14 @@ fn checked_start(
 ) -> Result<i64, LadderFault>
     ensures { MatchResult result (λ s. (start_fault (band last before) (pos own.points) start ≡ None) × (start ≡ Some s)) (λ f. start_fault (band last before) (pos own.points) start ≡ Some f) }
 {
-    let Some(s) = start else {
-        return Err(LadderFault::StartMisplaced);
-    };
+    let s = start.ok_or(LadderFault::StartMisplaced)?;
     if !is_within(s) {
         return Err(LadderFault::StartOutOfRange);
     }
     if !is_over(s, last) {
         return Err(LadderFault::StartsNotRising);
     }
-    if !(before.divides(s) & own.divides(s)) {
+    if !(before.divides(s) && own.divides(s)) {
         return Err(LadderFault::StartOffTick);
     }
     Ok(s)

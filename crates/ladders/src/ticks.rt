@@ -11,7 +11,7 @@ use crate::faults::LadderFault;
 use crate::limits::is_within;
 use crate::rungs::Ladder;
 
-const LARGEST: i64 = 1_000_000;
+const LARGEST: u32 = 1_000_000;
 
 #[derive(Clone, Copy)]
 pub struct Tick {
@@ -24,12 +24,10 @@ impl Tick {
     pub fn new(points: i64) -> Result<Tick, LadderFault>
         ensures { MatchResult result (λ t. (tick_fault points ≡ None) × (pos t.points ≡ points)) (λ f. tick_fault points ≡ Some f) }
     {
-        if points < 1 || LARGEST < points {
-            return Err(LadderFault::TickOutOfRange);
+        match u32::try_from(points) {
+            Ok(points @ 1..=LARGEST) => Ok(Tick { points }),
+            _ => Err(LadderFault::TickOutOfRange),
         }
-        Ok(Tick {
-            points: points as u32,
-        })
     }
 
     // Whether v is a multiple of the tick.
@@ -68,14 +66,10 @@ impl Ladder for Tick {
     ghost dense = { λ t z. tick_is_near t.points t.lawful.0 t.lawful.1 z };
 
     fn above(&self, v: i64) -> Option<i64> {
-        if is_within(v) { Some(self.up(v)) } else { None }
+        is_within(v).then(|| self.up(v))
     }
 
     fn below(&self, v: i64) -> Option<i64> {
-        if is_within(v) {
-            Some(self.down(v))
-        } else {
-            None
-        }
+        is_within(v).then(|| self.down(v))
     }
 }
