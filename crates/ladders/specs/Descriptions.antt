@@ -1,5 +1,5 @@
 -- A description has no fault exactly if it is lawful.
-use Rattle.std.specs.Prelude.{◌≡◌, ℕ, Bool, true, false, cond, ◌&&◌, List, [], ◌∷◌, length, ℤ, pos, ◌≤ℤ◌, is_ok, Some, None, Ok, Err, Decides, Option, Result, MatchResult, ◌≢◌, int_le, nat_le, unsigned_abs, refl}
+use Rattle.std.specs.Prelude.{◌≡◌, ℕ, Bool, true, false, cond, ◌&&◌, List, [], ◌∷◌, length, ℤ, pos, ◌≤ℤ◌, Some, None, Decides, Option, ◌≢◌, int_le, nat_le, unsigned_abs, refl}
 use Rattle.std.proofs.Common.{sym, ap, ◌∙◌, arith}
 use Rattle.std.specs.List.{AllByRecursion}
 use Rattle.std.proofs.lemmas.Int.{ints}
@@ -140,7 +140,6 @@ bands_sound (b ∷ bs) h =
     (both_none (no_start b.start) (tick_fault b.tick) (ap no_start h.joined.0) (tick_sound b.tick h.ticks.0))
     (later_sound b bs h.ticks.1 h.joined.1))
 
--- a constructor that succeeds where there is no fault, and otherwise tells it, takes exactly the lawful bands
-pub taken_if_lawful : {L : Type 0} (M : L → Type 0) (bs : List Band) (r : Result L LadderFault) → MatchResult r (λ l. (ladder_fault bs ≡ None) × M l) (λ f. ladder_fault bs ≡ Some f) → Decides (is_ok r) (LawfulBands bs)
-taken_if_lawful M bs (Ok l) h = (λ _. bands_lawful bs h.0, λ _. refl)
-taken_if_lawful M bs (Err f) h = (λ e. absurd (true≢false (sym e)), λ l. absurd (some_is_not_none f (sym h ∙ bands_sound bs l)))
+-- bands with a fault are not lawful, so a constructor is right to refuse them
+pub refused_unlawful : (bs : List Band) (f : LadderFault) → ladder_fault bs ≡ Some f → Decides false (LawfulBands bs)
+refused_unlawful bs f e = (λ t. absurd (true≢false (sym t)), λ l. absurd (some_is_not_none f (sym e ∙ bands_sound bs l)))

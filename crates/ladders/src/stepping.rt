@@ -116,9 +116,10 @@ fn tick_of(first: Tick, later: &[Step], v: i64) -> Tick
 }
 
 impl SteppedLadder {
-    // The ladder of these bands, checked in their order.
-    fn of(bands: &[Band]) -> Result<SteppedLadder, LadderFault>
-        ensures { MatchResult result (λ l. (ladder_fault bands.now ≡ None) × (description l.first (take l.count l.later) ≡ bands.now)) (λ f. ladder_fault bands.now ≡ Some f) }
+    // The ladder of these bands: taken exactly if they are lawful, and otherwise refused with the first fault.
+    pub fn new(bands: &[Band]) -> Result<SteppedLadder, LadderFault>
+        ensures taken { Decides (is_ok result) (LawfulBands bands.now) }
+        ensures made { MatchResult result (λ l. (ladder_fault bands.now ≡ None) × (description l.first (take l.count l.later) ≡ bands.now)) (λ f. ladder_fault bands.now ≡ Some f) }
     {
         let [head, rest @ ..] = bands else {
             return Err(LadderFault::NoBand);
@@ -133,14 +134,6 @@ impl SteppedLadder {
             later,
             count: rest.len(),
         })
-    }
-
-    // The ladder of these bands: taken exactly if they are lawful, and otherwise refused with the first fault.
-    pub fn new(bands: &[Band]) -> Result<SteppedLadder, LadderFault>
-        ensures taken { Decides (is_ok result) (LawfulBands bands.now) }
-        ensures made { MatchResult result (λ l. (ladder_fault bands.now ≡ None) × (description l.first (take l.count l.later) ≡ bands.now)) (λ f. ladder_fault bands.now ≡ Some f) }
-    {
-        SteppedLadder::of(bands)
     }
 
     // The tick of the band that v lies in.

@@ -8,12 +8,11 @@ returns g c =
     let Q = g.R.LadderSet.lawful c.args.second.now c.args.ladder in
     let x = c.args.x in
     let y = c.args.y in
-    let r = c.both.result in
-    let one = rounded_answers P (g.met.S.LadderSet.dense c.args.first.now c.args.ladder) x.0 x.1 r.0 c.both.ensures.one in
-    let other = rounded_answers Q (g.met.R.LadderSet.dense c.args.second.now c.args.ladder) y.0 y.1 r.1 c.both.ensures.other in
+    let one = rounded_answers P (g.met.S.LadderSet.dense c.args.first.now c.args.ladder) x.0 x.1 c.round.result c.round.ensures.value in
+    let other = rounded_answers Q (g.met.R.LadderSet.dense c.args.second.now c.args.ladder) y.0 y.1 c.round-2.result c.round-2.ensures.value in
     record {
-      one = c.both.ensures.one;
-      other = c.both.ensures.other;
-      rises = λ same h. rounding_rises P Q same x.0 y.0 x.1 y.1 r.0 r.1 one other h;
-      alike = λ same e. rounding_alike P Q same x.0 x.1 r.0 r.1 one (subst (λ (f : ℤ × ℕ). Answer Q f.0 f.1 r.1) (sym e) other);
+      one = c.round.ensures.value;
+      other = c.round-2.ensures.value;
+      rises = λ same h. rounding_rises P Q same x.0 y.0 x.1 y.1 _ _ one other h;
+      alike = λ same e. rounding_alike P Q same x.0 x.1 _ _ one (subst (λ (f : ℤ × ℕ). Answer Q f.0 f.1 c.round-2.result) (sym e) other);
     }
