@@ -12,11 +12,6 @@ use Rattle.ladders.specs.declared.ticks.Tick.{Tick}
 
 -- ---- one band more: a₀ is the first band, a the one before place i
 
--- a fault of the band at i is the rest's first
-pub faulty_band : (a₀ a : Band) (rest : List Band) (i : ℕ) (d : Band) (f : LadderFault) → i < length rest → later_fault a₀ rest ≡ later_fault a (drop i rest) → band_fault a (get_or rest i d) ≡ Some f → later_fault a₀ rest ≡ Some f
-faulty_band a₀ a rest i d f h inv e =
-    inv ∙ at_drop_more (later_fault a) rest i d h ∙ ap (λ o. or_else o (later_fault (get_or rest i d) (drop (i + 1) rest))) e
-
 -- where the band at i has none, a fault of the rest is one of what is left after it
 pub sound_band : (a₀ a : Band) (rest : List Band) (i : ℕ) (d : Band) → i < length rest → later_fault a₀ rest ≡ later_fault a (drop i rest) → band_fault a (get_or rest i d) ≡ None → later_fault a₀ rest ≡ later_fault (get_or rest i d) (drop (i + 1) rest)
 sound_band a₀ a rest i d h inv e =

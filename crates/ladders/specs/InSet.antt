@@ -64,15 +64,8 @@ module _ {D L : Type 0} (fault : D → Option LadderFault) (prices : D → ℤ �
   at_drop : (ds : List D) (i : ℕ) (d : D) → i < length ds → d ≡ slice_index_or ds i d → each_fault fault (drop i ds) ≡ or_else (fault d) (each_fault fault (drop (i + 1) ds))
   at_drop ds i d h read = at_drop_more (each_fault fault) ds i d h ∙ ap (λ x. or_else (fault x) (each_fault fault (drop (i + 1) ds))) (sym read)
 
-  pub faulty_at : (ds : List D) (i : ℕ) (d : D) (f : LadderFault) → i < length ds → d ≡ slice_index_or ds i d → each_fault fault ds ≡ each_fault fault (drop i ds) → fault d ≡ Some f → each_fault fault ds ≡ Some f
-  faulty_at ds i d f h read inv e = inv ∙ at_drop ds i d h read ∙ ap (λ o. or_else o (each_fault fault (drop (i + 1) ds))) e
-
   pub sound_at : (ds : List D) (i : ℕ) (d : D) → i < length ds → d ≡ slice_index_or ds i d → each_fault fault ds ≡ each_fault fault (drop i ds) → fault d ≡ None → each_fault fault ds ≡ each_fault fault (drop (i + 1) ds)
   sound_at ds i d h read inv e = inv ∙ at_drop ds i d h read ∙ ap (λ o. or_else o (each_fault fault (drop (i + 1) ds))) e
-
-  pub told_first : (ds : List D) (d : D) (l : L) → 0 < length ds → d ≡ slice_index_or ds 0 d → ((v : ℤ) → holds l v ≡ prices d v) → Told prices holds (take 1 ds) (l ∷ [])
-  told_first [] d l h read e = absurd (omega arith)
-  told_first (x ∷ xs) d l h read e = (λ v. e v ∙ ap (λ y. prices y v) read, tt)
 
   told_push : (ds : List D) (ls : List L) (d : D) (l : L) → Told prices holds ds ls → ((v : ℤ) → holds l v ≡ prices d v) → Told prices holds (ds ++ (d ∷ [])) (ls ++ (l ∷ []))
   told_push [] [] d l t e = (e, tt)

@@ -76,8 +76,8 @@ impl<L: Ladder> SetOf<L> {
     {
         let count = checked_count(described.len())?;
         let mut ladders = [described[0].checked()?; 16];
-        for i in 1..described.len() {
-            ladders[i] = described[i].checked()?;
+        for (i, next) in described.iter().enumerate() {
+            ladders[i] = next.checked()?;
         }
         Ok(SetOf { ladders, count })
     }

@@ -19,42 +19,46 @@ pub struct SteppedLadder {
     ghost lawful: { is_some (ladder_fault (description first (take count later))) ≡ false },
 }
 
-// Whether a start lies over the start before, if that band has one.
-fn is_over(start: i64, last: Option<i64>) -> bool
-    ensures { result ≡ rises last start }
-{
-    last.is_none_or(|s| s < start)
-}
-
-// The start of a band of the tick `own`, which follows a band that starts at `last` and has the tick `before`.
-fn checked_start(
-    last: Option<i64>,
-    before: Tick,
-    own: Tick,
+// A band that is checked, as the next one looks at it: its start, which the first band lacks, and its tick.
+#[derive(Clone, Copy)]
+struct Before {
     start: Option<i64>,
-) -> Result<i64, LadderFault>
-    ensures { MatchResult result (λ s. (start_fault (band last before) (pos own.points) start ≡ None) × (start ≡ Some s)) (λ f. start_fault (band last before) (pos own.points) start ≡ Some f) }
-{
-    let s = start.ok_or(LadderFault::StartMisplaced)?;
-    if !is_within(s) {
-        return Err(LadderFault::StartOutOfRange);
-    }
-    if !is_over(s, last) {
-        return Err(LadderFault::StartsNotRising);
-    }
-    if !(before.divides(s) && own.divides(s)) {
-        return Err(LadderFault::StartOffTick);
-    }
-    Ok(s)
+    tick: Tick,
 }
 
-// The band `next`, checked, after a band that starts at `last` and has the tick `before`.
-fn checked_step(last: Option<i64>, before: Tick, next: Band) -> Result<Step, LadderFault>
-    ensures { MatchResult result (λ s. (band_fault (band last before) next ≡ None) × (described s ≡ next)) (λ f. band_fault (band last before) next ≡ Some f) }
-{
-    let tick = Tick::new(next.tick)?;
-    let start = checked_start(last, before, tick, next.start)?;
-    Ok(Step { start, tick })
+impl Before {
+    // Whether a start lies over this band's, if it has one.
+    fn starts_under(self, start: i64) -> bool
+        ensures { result ≡ rises self.start start }
+    {
+        self.start.is_none_or(|s| s < start)
+    }
+
+    // The start of the next band, whose tick is `own`.
+    fn checked_start(self, own: Tick, start: Option<i64>) -> Result<i64, LadderFault>
+        ensures { MatchResult result (λ s. (start_fault (band self.start self.tick) (pos own.points) start ≡ None) × (start ≡ Some s)) (λ f. start_fault (band self.start self.tick) (pos own.points) start ≡ Some f) }
+    {
+        let s = start.ok_or(LadderFault::StartMisplaced)?;
+        if !is_within(s) {
+            return Err(LadderFault::StartOutOfRange);
+        }
+        if !self.starts_under(s) {
+            return Err(LadderFault::StartsNotRising);
+        }
+        if !(self.tick.divides(s) && own.divides(s)) {
+            return Err(LadderFault::StartOffTick);
+        }
+        Ok(s)
+    }
+
+    // The next band.
+    fn checked_step(self, next: Band) -> Result<Step, LadderFault>
+        ensures { MatchResult result (λ s. (band_fault (band self.start self.tick) next ≡ None) × (described s ≡ next)) (λ f. band_fault (band self.start self.tick) next ≡ Some f) }
+    {
+        let tick = Tick::new(next.tick)?;
+        let start = self.checked_start(tick, next.start)?;
+        Ok(Step { start, tick })
+    }
 }
 
 // Whether a ladder may have this many bands after the first.
@@ -83,13 +87,17 @@ fn checked_steps(first: Tick, rest: &[Band]) -> Result<[Step; 3], LadderFault>
         start: 0,
         tick: first,
     }; 3];
-    let mut last = None;
-    let mut before = first;
+    let mut before = Before {
+        start: None,
+        tick: first,
+    };
     for (i, next) in rest.iter().enumerate() {
-        let step = checked_step(last, before, *next)?;
+        let step = before.checked_step(*next)?;
         later[i] = step;
-        last = Some(step.start);
-        before = step.tick;
+        before = Before {
+            start: Some(step.start),
+            tick: step.tick,
+        };
     }
     Ok(later)
 }
