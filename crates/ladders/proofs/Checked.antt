@@ -1,14 +1,10 @@
 -- A stepped ladder's bands are checked one after the other: what is known on the way, and at the end.
-use Rattle.std.proofs.Common.{◌≡◌, ℕ, ◌+◌, ◌-◌, ◌<◌, ◌≤◌, leb, List, [], ◌∷◌, ◌++◌, map, length, get_or, take, drop, set, Some, None, sym, ap, ◌∙◌, arith}
-use Rattle.std.proofs.lemmas.List.{at_drop_more, take_all, take_more, take_more_set, map_push}
-use Rattle.std.proofs.lemmas.Bool.{le-leb, cond-true}
-use Rattle.ladders.specs.Bands.{band, described, description, band_fault, first_fault, later_fault, ladder_fault}
+use Rattle.std.proofs.Common.{◌≡◌, ℕ, ◌+◌, ◌<◌, List, [], ◌∷◌, ◌++◌, map, length, get_or, take, drop, set, None, sym, ap, ◌∙◌}
+use Rattle.std.proofs.lemmas.List.{at_drop_more, take_more, take_more_set, map_push}
+use Rattle.ladders.specs.Bands.{described, band_fault, later_fault}
 use Rattle.ladders.specs.Faults.{or_else}
 use Rattle.ladders.specs.declared.bands.Band.{Band}
 use Rattle.ladders.specs.declared.bands.Step.{Step}
-use Rattle.ladders.specs.declared.faults.LadderFault.{LadderFault}
-use Rattle.ladders.specs.declared.faults.LadderFault.TheVariants.{TooManyBands}
-use Rattle.ladders.specs.declared.ticks.Tick.{Tick}
 
 -- ---- one band more: a₀ is the first band, a the one before place i
 

@@ -1,10 +1,9 @@
 -- Rounding on a stepped ladder is rounding to the tick of the band that the number lies in.
-use Rattle.std.specs.Prelude.{◌≡◌, ℕ, ◌+◌, ◌<◌, ◌≤◌, Bool, true, false, List, [], ◌∷◌, map, length, drop, ℤ, pos, ◌+ℤ◌, neg_ℤ, ◌≤ℤ◌, ◌<ℤ◌, is_some, Some, None, Option, MatchOption, int_lt, nat_le, slice_index_or, unsigned_abs, refl}
+use Rattle.std.specs.Prelude.{◌≡◌, ◌<◌, ◌≤◌, Bool, true, false, List, [], ◌∷◌, map, length, ℤ, pos, ◌+ℤ◌, neg_ℤ, ◌≤ℤ◌, ◌<ℤ◌, is_some, Some, None, Option, MatchOption, int_lt, nat_le, unsigned_abs, refl}
 use Rattle.std.proofs.Common.{sym, ap, ◌∙◌, subst, arith}
 use Rattle.std.specs.Int.{int_rem_euclid}
 use Rattle.std.proofs.lemmas.Int.{ints, by_lt_z}
 use Rattle.std.proofs.lemmas.Bool.{cond-true, cond-false, cond_both, true≢false}
-use Rattle.std.proofs.lemmas.List.{at_drop_more}
 use Rattle.ladders.specs.Multiples.{multiple}
 use Rattle.ladders.specs.Rounding.{Above, Below, Near}
 use Rattle.ladders.specs.Bands.{tick_at, in_bands, band, described, description, first_fault, later_fault, ladder_fault}
@@ -131,25 +130,6 @@ stepped_is_near a t bs e j z =
     let reached = above_in_band a t bs e j z up (up_is_above k z range.0) in
     let short = up_is_near k z range.0 in
     record { price = up; on = reached.on; from = reached.reaches; to = omega (arith, ints) }
-
--- ---- one band more in the search for the tick at v
-
-drop_described : (t : Tick) (steps : List Step) (k : ℕ) (b : Step) (v : ℤ) → k < length steps → b ≡ slice_index_or steps k b → at t (drop k steps) v ≡ at t (b ∷ drop (k + 1) steps) v
-drop_described t steps k b v h read = at_drop_more (λ bs. at t bs v) steps k b h ∙ ap (λ x. at t (x ∷ drop (k + 1) steps) v) (sym read)
-
--- v lies under the start of the band at k: the tick so far is the one
-pub stops_at : (t₀ t : Tick) (steps : List Step) (k : ℕ) (b : Step) (v s : ℤ) → s ≡ b.start → k < length steps → b ≡ slice_index_or steps k b → at t₀ steps v ≡ at t (drop k steps) v → int_lt v s ≡ true → at t₀ steps v ≡ pos t.points
-stops_at t₀ t steps k b v s start h read inv below =
-    inv
-    ∙ drop_described t steps k b v h read
-    ∙ cond-true (int_lt v b.start) (pos t.points) (at b.tick (drop (k + 1) steps) v) (subst (λ (x : ℤ). int_lt v x ≡ true) start below)
-
--- v lies in the band at k or a later one
-pub goes_past : (t₀ t : Tick) (steps : List Step) (k : ℕ) (b : Step) (v s : ℤ) → s ≡ b.start → k < length steps → b ≡ slice_index_or steps k b → at t₀ steps v ≡ at t (drop k steps) v → int_lt v s ≡ false → at t₀ steps v ≡ at b.tick (drop (k + 1) steps) v
-goes_past t₀ t steps k b v s start h read inv over =
-    inv
-    ∙ drop_described t steps k b v h read
-    ∙ cond-false (int_lt v b.start) (pos t.points) (at b.tick (drop (k + 1) steps) v) (subst (λ (x : ℤ). int_lt v x ≡ false) start over)
 
 -- ---- a checked ladder
 

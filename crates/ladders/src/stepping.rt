@@ -109,20 +109,6 @@ fn is_under(v: i64, start: i64) -> bool
     v < start
 }
 
-// The tick of the band that v lies in.
-fn tick_of(first: Tick, later: &[Step], v: i64) -> Tick
-    ensures { pos result.points ≡ tick_at (pos first.points) (map described later.now) v }
-{
-    let mut tick = first;
-    for step in later {
-        if is_under(v, step.start) {
-            return tick;
-        }
-        tick = step.tick;
-    }
-    tick
-}
-
 impl SteppedLadder {
     // The ladder of these bands: taken exactly if they are lawful, and otherwise refused with the first fault.
     pub fn new(bands: &[Band]) -> Result<SteppedLadder, LadderFault>
@@ -144,11 +130,14 @@ impl SteppedLadder {
         })
     }
 
-    // The tick of the band that v lies in.
+    // The tick of the band that v lies in: that of the last band which does not begin over v.
     fn tick_at(&self, v: i64) -> Tick
         ensures { pos result.points ≡ tick_at (pos self.now.first.points) (map described (take self.now.count self.now.later)) v }
     {
-        tick_of(self.first, &self.later[0..self.count], v)
+        self.later[..self.count]
+            .iter()
+            .take_while(|step| !is_under(v, step.start))
+            .fold(self.first, |_, step| step.tick)
     }
 }
 
