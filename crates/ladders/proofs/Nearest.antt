@@ -7,7 +7,7 @@ use Rattle.ladders.specs.Laws.{Same, NotOver, NoLower}
 use Rattle.ladders.specs.Prices.{within}
 use Rattle.ladders.specs.Rounded.{Rounds, rounded}
 use Rattle.ladders.specs.declared.rounding.Rounded.{Rounded}
-use Rattle.ladders.specs.Rounding.{Above, Below, Nearest, Near, distance}
+use Rattle.ladders.specs.Rounding.{AnswersWhere, Above, Below, Nearest, Near, distance}
 use Rattle.ladders.specs.Fractions.{inside, floor, ceiling}
 use Rattle.ladders.specs.Values.{seek_up, seek_down, above_of, below_of, closer_of, nearest_of}
 use Rattle.ladders.specs.Products.{times_rises, times_apart, times_neg, times_sum, times_swap}
@@ -270,7 +270,7 @@ ceiling_rises n m d e some_d some_e h =
 
 -- what a set answers about a fraction
 abbrev pub Answer : (ℤ → Bool) → ℤ → ℕ → Option Rounded → Type 0
-Answer P n d r = MatchOption r (inside n d ≡ false) (λ p. (inside n d ≡ true) × Rounds P n d p)
+Answer P n d r = AnswersWhere (inside n d) (Rounds P n d) r
 
 pub rounded_answers : (P : ℤ → Bool) → ((z : ℤ) → Near P z) → (n : ℤ) (d : ℕ) (r : Option Rounded) → r ≡ rounded P n d → Answer P n d r
 rounded_answers P near n d r is =

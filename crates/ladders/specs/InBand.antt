@@ -5,7 +5,7 @@ use Rattle.std.specs.Int.{int_rem_euclid}
 use Rattle.std.proofs.lemmas.Int.{ints, by_lt_z}
 use Rattle.std.proofs.lemmas.Bool.{cond-true, cond-false, cond_both, true≢false}
 use Rattle.ladders.specs.Multiples.{multiple}
-use Rattle.ladders.specs.Rounding.{Above, Below, Near}
+use Rattle.ladders.specs.Rounding.{AnswersWhere, Above, Below, Near}
 use Rattle.ladders.specs.Bands.{tick_at, in_bands, band, described, description, first_fault, later_fault, ladder_fault}
 use Rattle.ladders.specs.Faults.{or_else}
 use Rattle.ladders.specs.declared.bands.Band.{Band}
@@ -144,12 +144,12 @@ sound_later t bs e =
     no_value (Some f) e = absurd (true≢false e)
 
 -- the answer of a tick is the ladder's, where it is the tick at v
-pub above_in_ladder : (t k : Tick) (bs : List Step) (v : ℤ) (r : Option ℤ) → is_some (ladder_fault (description t bs)) ≡ false → pos k.points ≡ at t bs v → MatchOption r (within v ≡ false) (λ p. (within v ≡ true) × Above (multiple k.points) v p) → MatchOption r (within v ≡ false) (λ p. (within v ≡ true) × Above (stepped t bs) v p)
+pub above_in_ladder : (t k : Tick) (bs : List Step) (v : ℤ) (r : Option ℤ) → is_some (ladder_fault (description t bs)) ≡ false → pos k.points ≡ at t bs v → AnswersWhere (within v) (Above (multiple k.points) v) r → AnswersWhere (within v) (Above (stepped t bs) v) r
 above_in_ladder t k bs v None sound is r = r
 above_in_ladder t k bs v (Some p) sound is r =
     (r.0, above_in_band (band None t) t bs refl (sound_later t bs sound) v p (subst (λ (x : ℤ). Above (multiple (unsigned_abs x)) v p) is r.1))
 
-pub below_in_ladder : (t k : Tick) (bs : List Step) (v : ℤ) (r : Option ℤ) → is_some (ladder_fault (description t bs)) ≡ false → pos k.points ≡ at t bs v → MatchOption r (within v ≡ false) (λ p. (within v ≡ true) × Below (multiple k.points) v p) → MatchOption r (within v ≡ false) (λ p. (within v ≡ true) × Below (stepped t bs) v p)
+pub below_in_ladder : (t k : Tick) (bs : List Step) (v : ℤ) (r : Option ℤ) → is_some (ladder_fault (description t bs)) ≡ false → pos k.points ≡ at t bs v → AnswersWhere (within v) (Below (multiple k.points) v) r → AnswersWhere (within v) (Below (stepped t bs) v) r
 below_in_ladder t k bs v None sound is r = r
 below_in_ladder t k bs v (Some p) sound is r =
     (r.0, below_in_band (band None t) t bs refl (sound_later t bs sound) v p (subst (λ (x : ℤ). Below (multiple (unsigned_abs x)) v p) is r.1))

@@ -7,7 +7,7 @@ use Rattle.ladders.specs.Faults.{or_else, size_fault}
 use Rattle.ladders.specs.declared.faults.LadderFault.{LadderFault}
 use Rattle.std.proofs.lemmas.Bool.{cond_both}
 use Rattle.ladders.specs.Prices.{within}
-use Rattle.ladders.specs.Rounding.{Above, Below, Near}
+use Rattle.ladders.specs.Rounding.{AnswersWhere, Above, Below, Near}
 use Rattle.ladders.specs.Sets.{lawful_at, each_fault, set_fault}
 
 module _ {L : Type 0} (holds : L → ℤ → Bool) where
@@ -37,17 +37,17 @@ module _ {L : Type 0} (holds : L → ℤ → Bool) where
   set_is_near near (l ∷ ls) (suc n) z = set_is_near near ls n z
 
 -- where every whole number is lawful, a number is its own rounding
-pub above_itself : (P : ℤ → Bool) → ((v : ℤ) → P v ≡ true) → (v : ℤ) (r : Option ℤ) → r ≡ cond (within v) (Some v) None → MatchOption r (within v ≡ false) (λ p. (within v ≡ true) × Above P v p)
+pub above_itself : (P : ℤ → Bool) → ((v : ℤ) → P v ≡ true) → (v : ℤ) (r : Option ℤ) → r ≡ cond (within v) (Some v) None → AnswersWhere (within v) (Above P v) r
 above_itself P all v r e =
-    subst (λ (o : Option ℤ). MatchOption o (within v ≡ false) (λ p. (within v ≡ true) × Above P v p)) (sym e)
-    (cond_both (within v) (Some v) None (λ o. MatchOption o (within v ≡ false) (λ p. (within v ≡ true) × Above P v p))
+    subst (AnswersWhere (within v) (Above P v)) (sym e)
+    (cond_both (within v) (Some v) None (AnswersWhere (within v) (Above P v))
     (λ t. (t, record { on = all v; reaches = omega (arith, ints); least = λ q _ l. l }))
     (λ t. t))
 
-pub below_itself : (P : ℤ → Bool) → ((v : ℤ) → P v ≡ true) → (v : ℤ) (r : Option ℤ) → r ≡ cond (within v) (Some v) None → MatchOption r (within v ≡ false) (λ p. (within v ≡ true) × Below P v p)
+pub below_itself : (P : ℤ → Bool) → ((v : ℤ) → P v ≡ true) → (v : ℤ) (r : Option ℤ) → r ≡ cond (within v) (Some v) None → AnswersWhere (within v) (Below P v) r
 below_itself P all v r e =
-    subst (λ (o : Option ℤ). MatchOption o (within v ≡ false) (λ p. (within v ≡ true) × Below P v p)) (sym e)
-    (cond_both (within v) (Some v) None (λ o. MatchOption o (within v ≡ false) (λ p. (within v ≡ true) × Below P v p))
+    subst (AnswersWhere (within v) (Below P v)) (sym e)
+    (cond_both (within v) (Some v) None (AnswersWhere (within v) (Below P v))
     (λ t. (t, record { on = all v; reaches = omega (arith, ints); greatest = λ q _ l. l }))
     (λ t. t))
 

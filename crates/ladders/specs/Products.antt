@@ -71,13 +71,7 @@ pub times_neg : (a : ℤ) (t : ℕ) → neg_ℤ a *ℤ pos t ≡ neg_ℤ (a *ℤ
 times_neg (pos a) t = neg_times a t
 times_neg (negsuc a) t = omega (arith, ints)
 
--- the product of a signed number of 64 bits and one of 32
-pub times_bound : (a : ℤ) (t : ℕ) → unsigned_abs a ≤ 2 ^ 63 → t < 2 ^ 32 → unsigned_abs (a *ℤ pos t) < 2 ^ 96
-times_bound a t h k =
-    let m = mul-le-mul h (le_of_lt k) in
-    let e = abs_times a t in
-    omega arith
-
+-- a number below 2 ^ 96 fits 128 bits, and one of 64 bits is below that
 pub bound_fits : (z : ℤ) → unsigned_abs z < 2 ^ 96 → FitsSigned w128 z
 bound_fits (pos n) h = record { sfits = omega arith }
 bound_fits (negsuc n) h = record { sfits = omega arith }

@@ -1,9 +1,9 @@
 // Rounding to the lawful prices of a ladder, on any set of ladders.
-ghost use Rattle.std.specs.Prelude.{◌≡◌, ◌^◌, ◌<◌, true, false, ◌&&◌, pos, ◌+ℤ◌, ◌-ℤ◌, ◌*ℤ◌, ◌≤ℤ◌, IfSome, MatchOption, unsigned_abs};
+ghost use Rattle.std.specs.Prelude.{◌≡◌, ◌^◌, ◌<◌, true, ◌&&◌, pos, ◌+ℤ◌, ◌-ℤ◌, ◌*ℤ◌, ◌≤ℤ◌, IfSome, unsigned_abs};
 ghost use Rattle.ladders.specs.Fractions.{inside, floor, ceiling};
 ghost use Rattle.ladders.specs.Prices.{within};
 ghost use Rattle.ladders.specs.Rounded.{Rounds, rounded};
-ghost use Rattle.ladders.specs.Rounding.{Nearest};
+ghost use Rattle.ladders.specs.Rounding.{AnswersWhere, Nearest};
 ghost use Rattle.ladders.specs.Values.{closer_of, nearest_price};
 
 use crate::limits::LIMIT;
@@ -71,7 +71,7 @@ fn closer(fraction: (i64, u32), low: i64, high: i64) -> i64
 // The fraction (numerator, denominator) rounded to the lawful prices of a ladder: nothing for a denominator of zero or a
 // fraction beyond the price limit.
 pub fn round<S: LadderSet>(set: &S, ladder: u8, fraction: (i64, u32)) -> Option<Rounded>
-    ensures rule { MatchOption result (inside fraction.0 fraction.1 ≡ false) (λ p. (inside fraction.0 fraction.1 ≡ true) × Rounds (S.lawful set.now ladder) fraction.0 fraction.1 p) }
+    ensures rule { AnswersWhere (inside fraction.0 fraction.1) (Rounds (S.lawful set.now ladder) fraction.0 fraction.1) result }
     ensures value { result ≡ rounded (S.lawful set.now ladder) fraction.0 fraction.1 }
     ensures close { IfSome result (λ p. p.above ≤ℤ (p.below +ℤ pos 1000000)) }
 {
@@ -90,7 +90,7 @@ pub fn round<S: LadderSet>(set: &S, ladder: u8, fraction: (i64, u32)) -> Option<
 
 // The lawful price closest to a fraction; of two equally close, the larger.
 pub fn nearest<S: LadderSet>(set: &S, ladder: u8, fraction: (i64, u32)) -> Option<i64>
-    ensures rule { MatchOption result (inside fraction.0 fraction.1 ≡ false) (λ p. (inside fraction.0 fraction.1 ≡ true) × Nearest (S.lawful set.now ladder) fraction.0 fraction.1 p) }
+    ensures rule { AnswersWhere (inside fraction.0 fraction.1) (Nearest (S.lawful set.now ladder) fraction.0 fraction.1) result }
     ensures value { result ≡ nearest_price (S.lawful set.now ladder) fraction.0 fraction.1 }
 {
     round(set, ladder, fraction).map(|r| r.nearest)

@@ -1,8 +1,8 @@
 // A set of 1 to 16 ladders, numbered from 0.
-ghost use Rattle.std.specs.Prelude.{◌≡◌, ℕ, ◌≤◌, Bool, true, false, length, take, ℤ, if◌then◌else◌, Some, None, MatchOption, MatchResult};
+ghost use Rattle.std.specs.Prelude.{◌≡◌, ℕ, ◌≤◌, Bool, true, length, take, ℤ, if◌then◌else◌, Some, None};
 ghost use Rattle.ladders.specs.Prices.{within};
-ghost use Rattle.ladders.specs.Rounding.{Above, Below, Near};
-ghost use Rattle.ladders.specs.Faults.{size_fault};
+ghost use Rattle.ladders.specs.Rounding.{AnswersWhere, Above, Below, Near};
+ghost use Rattle.ladders.specs.Faults.{TakenUnless, size_fault};
 ghost use Rattle.ladders.specs.Sets.{lawful_at, set_fault};
 ghost use Rattle.ladders.specs.InSet.{lacks, set_is_near};
 
@@ -24,11 +24,11 @@ pub trait LadderSet {
 
     // The least lawful price not under v, for v within the price limit. It may pass the limit.
     fn above(&self, ladder: u8, v: i64) -> Option<i64>
-        ensures { MatchOption result (within v ≡ false) (λ p. (within v ≡ true) × Above (lawful self.now ladder) v p) };
+        ensures { AnswersWhere (within v) (Above (lawful self.now ladder) v) result };
 
     // The greatest lawful price not over v, for v within the price limit. It may pass the limit.
     fn below(&self, ladder: u8, v: i64) -> Option<i64>
-        ensures { MatchOption result (within v ≡ false) (λ p. (within v ≡ true) × Below (lawful self.now ladder) v p) };
+        ensures { AnswersWhere (within v) (Below (lawful self.now ladder) v) result };
 
     ghost counted: { (s : Self) → (1 ≤ size s) × (size s ≤ 16) };
 
@@ -53,7 +53,7 @@ pub type SteppedSet = SetOf<SteppedLadder>;
 
 // A number of ladders, 1 to 16.
 fn checked_count(count: usize) -> Result<u8, LadderFault>
-    ensures { MatchResult result (λ n. (size_fault count ≡ None) × ((n ≡ count) × ((1 ≤ count) × (count ≤ 16)))) (λ f. size_fault count ≡ Some f) }
+    ensures { TakenUnless (size_fault count) (λ n. (n ≡ count) × ((1 ≤ count) × (count ≤ 16))) result }
 {
     match count {
         0 => Err(LadderFault::NoLadder),
@@ -72,7 +72,7 @@ fn whole(v: i64) -> Option<i64>
 impl<L: Ladder> SetOf<L> {
     // The set of the ladders that are described, numbered in their order.
     pub fn new<D: Describes<L>>(described: &[D]) -> Result<SetOf<L>, LadderFault>
-        ensures { MatchResult result (λ s. (set_fault D.Describes.fault described.now ≡ None) × ((s.count ≡ length described.now) × ((n : ℕ) (v : ℤ) → lawful_at L.Ladder.holds (take s.count s.ladders) n v ≡ lawful_at D.Describes.prices described.now n v))) (λ f. set_fault D.Describes.fault described.now ≡ Some f) }
+        ensures { TakenUnless (set_fault D.Describes.fault described.now) (λ s. (s.count ≡ length described.now) × ((n : ℕ) (v : ℤ) → lawful_at L.Ladder.holds (take s.count s.ladders) n v ≡ lawful_at D.Describes.prices described.now n v)) result }
     {
         let count = checked_count(described.len())?;
         let mut ladders = [described[0].checked()?; 16];

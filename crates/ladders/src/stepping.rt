@@ -1,6 +1,7 @@
 // A stepped ladder: one to four bands, each with a tick for its prices.
-ghost use Rattle.std.specs.Prelude.{◌≡◌, ◌≤◌, false, map, length, take, pos, is_some, is_ok, Some, None, Decides, MatchResult, int_lt, nat_le};
+ghost use Rattle.std.specs.Prelude.{◌≡◌, ◌≤◌, false, map, length, take, pos, is_some, is_ok, Some, None, Decides, int_lt, nat_le};
 ghost use Rattle.ladders.specs.Bands.{tick_at, in_bands, band, described, description, rises, band_fault, start_fault, first_fault, later_fault, ladder_fault};
+ghost use Rattle.ladders.specs.Faults.{TakenUnless};
 ghost use Rattle.ladders.specs.Lawful.{LawfulBands};
 ghost use Rattle.ladders.specs.InBand.{ladder_is_near};
 
@@ -36,7 +37,7 @@ impl Before {
 
     // The start of the next band, whose tick is `own`.
     fn checked_start(self, own: Tick, start: Option<i64>) -> Result<i64, LadderFault>
-        ensures { MatchResult result (λ s. (start_fault (band self.start self.tick) (pos own.points) start ≡ None) × (start ≡ Some s)) (λ f. start_fault (band self.start self.tick) (pos own.points) start ≡ Some f) }
+        ensures { TakenUnless (start_fault (band self.start self.tick) (pos own.points) start) (λ s. start ≡ Some s) result }
     {
         let s = start.ok_or(LadderFault::StartMisplaced)?;
         if !is_within(s) {
@@ -53,7 +54,7 @@ impl Before {
 
     // The next band.
     fn checked_step(self, next: Band) -> Result<Step, LadderFault>
-        ensures { MatchResult result (λ s. (band_fault (band self.start self.tick) next ≡ None) × (described s ≡ next)) (λ f. band_fault (band self.start self.tick) next ≡ Some f) }
+        ensures { TakenUnless (band_fault (band self.start self.tick) next) (λ s. described s ≡ next) result }
     {
         let tick = Tick::new(next.tick)?;
         let start = self.checked_start(tick, next.start)?;
@@ -70,7 +71,7 @@ fn are_few(later: usize) -> bool
 
 // The tick of the first band, which has no start.
 fn checked_first(head: Band) -> Result<Tick, LadderFault>
-    ensures { MatchResult result (λ t. (first_fault head ≡ None) × (band None t ≡ head)) (λ f. first_fault head ≡ Some f) }
+    ensures { TakenUnless (first_fault head) (λ t. band None t ≡ head) result }
 {
     if head.start.is_some() {
         return Err(LadderFault::StartMisplaced);
@@ -81,7 +82,7 @@ fn checked_first(head: Band) -> Result<Tick, LadderFault>
 // The bands after the first, checked one after the other.
 fn checked_steps(first: Tick, rest: &[Band]) -> Result<[Step; 3], LadderFault>
     requires { length rest.now ≤ 3 }
-    ensures { MatchResult result (λ later. (later_fault (band None first) rest.now ≡ None) × (map described (take (length rest.now) later) ≡ rest.now)) (λ f. later_fault (band None first) rest.now ≡ Some f) }
+    ensures { TakenUnless (later_fault (band None first) rest.now) (λ later. map described (take (length rest.now) later) ≡ rest.now) result }
 {
     let mut later = [Step {
         start: 0,
@@ -113,7 +114,7 @@ impl SteppedLadder {
     // The ladder of these bands: taken exactly if they are lawful, and otherwise refused with the first fault.
     pub fn new(bands: &[Band]) -> Result<SteppedLadder, LadderFault>
         ensures taken { Decides (is_ok result) (LawfulBands bands.now) }
-        ensures made { MatchResult result (λ l. (ladder_fault bands.now ≡ None) × (description l.first (take l.count l.later) ≡ bands.now)) (λ f. ladder_fault bands.now ≡ Some f) }
+        ensures made { TakenUnless (ladder_fault bands.now) (λ l. description l.first (take l.count l.later) ≡ bands.now) result }
     {
         let [head, rest @ ..] = bands else {
             return Err(LadderFault::NoBand);

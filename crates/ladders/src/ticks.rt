@@ -1,7 +1,7 @@
 // A tick, and the even ladder of its multiples.
-ghost use Rattle.std.specs.Prelude.{◌≡◌, ◌≤◌, true, pos, ◌≤ℤ◌, ◌<ℤ◌, Some, None, MatchResult};
+ghost use Rattle.std.specs.Prelude.{◌≡◌, ◌≤◌, true, pos, ◌≤ℤ◌, ◌<ℤ◌};
 ghost use Rattle.std.specs.Int.{int_rem_euclid};
-ghost use Rattle.ladders.specs.Faults.{tick_fault};
+ghost use Rattle.ladders.specs.Faults.{TakenUnless, tick_fault};
 ghost use Rattle.ladders.specs.Multiples.{multiple};
 ghost use Rattle.ladders.specs.Prices.{within};
 ghost use Rattle.ladders.specs.Rounding.{Above, Below};
@@ -22,7 +22,7 @@ pub struct Tick {
 impl Tick {
     // A tick of 1 to 1,000,000 points.
     pub fn new(points: i64) -> Result<Tick, LadderFault>
-        ensures { MatchResult result (λ t. (tick_fault points ≡ None) × (pos t.points ≡ points)) (λ f. tick_fault points ≡ Some f) }
+        ensures { TakenUnless (tick_fault points) (λ t. pos t.points ≡ points) result }
     {
         match u32::try_from(points) {
             Ok(points @ 1..=LARGEST) => Ok(Tick { points }),
