@@ -272,16 +272,6 @@ ceiling_rises n m d e some_d some_e h =
 abbrev pub Answer : (ℤ → Bool) → ℤ → ℕ → Option Rounded → Type 0
 Answer P n d r = AnswersWhere (inside n d) (Rounds P n d) r
 
-pub rounded_answers : (P : ℤ → Bool) → ((z : ℤ) → Near P z) → (n : ℤ) (d : ℕ) (r : Option Rounded) → r ≡ rounded P n d → Answer P n d r
-rounded_answers P near n d r is =
-    subst (Answer P n d) (sym is)
-    (cond_both (inside n d) _ None (Answer P n d)
-    (λ e.
-    let low = below_of_is P near (floor n d) in
-    let high = above_of_is P near (ceiling n d) in
-    (e, rounds_from P n d (below_of P (floor n d)) (above_of P (ceiling n d)) _ e low high refl (nearest_is P n d) refl))
-    (λ e. e))
-
 pub rounding_rises : (P Q : ℤ → Bool) → Same P Q → (n m : ℤ) (d e : ℕ) (r s : Option Rounded) → Answer P n d r → Answer Q m e s → NotOver n d m e → NoLower r s
 rounding_rises P Q same n m d e None s a b h = tt
 rounding_rises P Q same n m d e (Some r) None a b h = tt
