@@ -1,5 +1,5 @@
 -- The values of `Values` are what the relations of `Rounding` ask for.
-use Rattle.std.proofs.Common.{◌≡◌, ℕ, zero, suc, ◌<◌, ◌≤◌, Bool, true, false, ◌&&◌, ltb, ℤ, pos, negsuc, ◌+ℤ◌, ◌-ℤ◌, ◌*ℤ◌, neg_ℤ, nat_abs, ◌≤ℤ◌, ◌<ℤ◌, Some, None, Option, sym, refl, ap, ◌∙◌, subst, arith, MatchOption}
+use Rattle.std.proofs.Common.{◌≡◌, ℕ, zero, suc, ◌<◌, ◌≤◌, Bool, true, ◌&&◌, ltb, ℤ, pos, negsuc, ◌+ℤ◌, ◌-ℤ◌, ◌*ℤ◌, neg_ℤ, nat_abs, ◌≤ℤ◌, ◌<ℤ◌, Some, None, Option, sym, refl, ap, ◌∙◌, subst, arith}
 use lib.Signed.{le_z}
 use Rattle.std.proofs.lemmas.Int.{ints, by_lt_z}
 use Rattle.std.proofs.lemmas.Bool.{cond_both, cond-true, and_parts, ltb-true, true≢false, false≢true}
@@ -224,10 +224,6 @@ unfolding nearest_of
 nearest_value P near n d p h a =
     nearest_once P n d p _ a
     (closer_is_nearest P n d (below_of P (floor n d)) (above_of P (ceiling n d)) h (below_of_is P near (floor n d)) (above_of_is P near (ceiling n d)))
-
-nearest_is : (P : ℤ → Bool) (n : ℤ) (d : ℕ) → nearest_of P n d ≡ closer_of n d (below_of P (floor n d)) (above_of P (ceiling n d))
-unfolding nearest_of
-nearest_is P n d = refl
 
 -- ---- a fraction rounded three ways
 

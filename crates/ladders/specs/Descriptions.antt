@@ -1,5 +1,5 @@
 -- A description has no fault exactly if it is lawful.
-use Rattle.std.specs.Prelude.{◌≡◌, ℕ, Bool, true, false, cond, ◌&&◌, List, [], ◌∷◌, length, ℤ, pos, ◌≤ℤ◌, Some, None, Decides, Option, ◌≢◌, int_le, nat_le, unsigned_abs, refl}
+use Rattle.std.specs.Prelude.{◌≡◌, Bool, true, false, cond, ◌&&◌, List, [], ◌∷◌, length, ℤ, pos, ◌≤ℤ◌, Some, None, Decides, Option, int_le, nat_le, unsigned_abs, refl}
 use Rattle.std.proofs.Common.{sym, ap, ◌∙◌, arith}
 use Rattle.std.specs.List.{AllByRecursion}
 use Rattle.std.proofs.lemmas.Int.{ints}

@@ -1,6 +1,6 @@
 -- Laws of whole numbers times a natural number. The library has the product and not these.
 use Rattle.std.specs.Prelude.{◌≡◌, ℕ, zero, suc, ◌*◌, ◌^◌, ◌<◌, ◌≤◌, ℤ, pos, negsuc, ◌+ℤ◌, ◌-ℤ◌, ◌*ℤ◌, neg_ℤ, ◌≤ℤ◌, ◌<ℤ◌, FitsSigned, unsigned_abs, refl}
-use Rattle.std.proofs.Common.{sym, ap, ◌∙◌, subst, mul-le-mul_right, zero-mul, mul_right_comm, mul-le-mul, le_of_lt, arith, to_z, of_z}
+use Rattle.std.proofs.Common.{sym, ap, ◌∙◌, subst, mul-le-mul_right, zero-mul, mul_right_comm, arith, to_z, of_z}
 use Rattle.std.proofs.Math.IntN.{suc_ℤ-*ℤ, +ℤ_one, +ℤ_idr, ℤ_ind}
 use Rattle.std.specs.Int.{w64, w128}
 use Rattle.std.proofs.lemmas.Int.{ints, to_z-of_z, fits_signed_from_abs}

@@ -11,6 +11,7 @@ use crate::rungs::Ladder;
 use crate::stepping::SteppedLadder;
 use crate::ticks::Tick;
 
+// No TryFrom, whose impls have no place for what a description means.
 pub trait Describes<L: Ladder> {
     // What is wrong with the description, if anything.
     ghost fault: { Self → Option Fault };

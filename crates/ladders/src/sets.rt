@@ -39,7 +39,8 @@ pub trait LadderSet {
     ghost dense: { (s : Self) (n : ℕ) (z : ℤ) → Near (lawful s n) z };
 }
 
-// A set of ladders of one make. The places from `count` on are not used.
+// A set of ladders of one make. The places from `count` on are not used: an array, since nothing here allocates, and no
+// ArrayVec, whose `new` asks that L has a default.
 #[derive(Drop)]
 pub struct SetOf<L> {
     ladders: [L; 16],
@@ -76,6 +77,7 @@ impl<L: Ladder> SetOf<L> {
     {
         let count = checked_count(described.len())?;
         let mut ladders = [described[0].checked()?; 16];
+        // By place, since a zip with `iter_mut` leaves the proof without the array's values.
         for (i, next) in described.iter().enumerate() {
             ladders[i] = next.checked()?;
         }

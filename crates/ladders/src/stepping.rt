@@ -11,6 +11,7 @@ use crate::limits::is_within;
 use crate::rungs::Ladder;
 use crate::ticks::Tick;
 
+// An array with a count, since nothing here allocates, and no ArrayVec, which is not Copy.
 #[derive(Clone, Copy)]
 pub struct SteppedLadder {
     first: Tick,
@@ -92,6 +93,7 @@ fn checked_steps(first: Tick, rest: &[Band]) -> Result<[Step; 3], LadderFault>
         start: None,
         tick: first,
     };
+    // By place, since a zip with `iter_mut` leaves the proof without the array's values.
     for (i, next) in rest.iter().enumerate() {
         let step = before.checked_step(*next)?;
         later[i] = step;

@@ -50,11 +50,13 @@ fn answer_value<S: LadderSet>(rt: &HostRuntime, set: &S, word: &str) -> io::Resu
         return println!(rt; "{word}: a denominator of zero");
     }
     match round(set, 0, f) {
-        Some(Rounded {
-            below,
-            nearest,
-            above,
-        }) => println!(rt; "{word}: below {below} nearest {nearest} above {above}"),
+        Some(
+            Rounded {
+                below,
+                nearest,
+                above,
+            },
+        ) => println!(rt; "{word}: below {below} nearest {nearest} above {above}"),
         None => println!(rt; "{word}: beyond the price limit"),
     }
 }

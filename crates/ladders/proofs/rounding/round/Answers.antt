@@ -5,7 +5,7 @@ use Rattle.ladders.specs.Fractions.{inside}
 use Rattle.ladders.specs.Prices.{within}
 use Rattle.ladders.specs.Rounding.{Above, Below}
 use Rattle.ladders.specs.Values.{closer_of}
-use Rattle.ladders.proofs.Nearest.{floor_within, ceiling_within, rounds_from, rounds_value, rounds_close}
+use Rattle.ladders.proofs.Nearest.{ceiling_within, rounds_from, rounds_value, rounds_close}
 use Rattle.ladders.proofs.rounding.round.Goals as goal
 
 -- of a fraction inside the limit, the set always answers

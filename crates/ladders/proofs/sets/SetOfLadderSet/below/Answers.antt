@@ -1,4 +1,4 @@
-use Rattle.std.proofs.Common.{◌≡◌, ◌≤◌, Bool, true, false, length, ℤ, subst, arith, w64, rules, MatchOption}
+use Rattle.std.proofs.Common.{◌≡◌, ◌≤◌, Bool, length, ℤ, subst, arith, w64, rules}
 use Rattle.std.proofs.lemmas.Int.{to_z-of_z}
 use Rattle.ladders.specs.Prices.{within}
 use Rattle.ladders.specs.Rounding.{AnswersWhere, Below}
