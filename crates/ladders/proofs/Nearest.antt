@@ -2,7 +2,7 @@
 use Rattle.std.proofs.Common.{◌≡◌, ℕ, zero, suc, ◌<◌, ◌≤◌, Bool, true, ◌&&◌, ltb, ℤ, pos, negsuc, ◌+ℤ◌, ◌-ℤ◌, ◌*ℤ◌, neg_ℤ, nat_abs, ◌≤ℤ◌, ◌<ℤ◌, Some, None, Option, sym, refl, ap, ◌∙◌, subst, arith}
 use lib.Signed.{le_z}
 use Rattle.std.proofs.lemmas.Int.{ints, by_lt_z}
-use Rattle.std.proofs.lemmas.Bool.{cond_both, cond-true, and_parts, ltb-true, true≢false, false≢true}
+use Rattle.std.proofs.lemmas.Bool.{cond_both, cond-true, and_parts, ltb-true, false≢true}
 use Rattle.ladders.specs.Laws.{Same, NotOver, NoLower}
 use Rattle.ladders.specs.Prices.{within}
 use Rattle.ladders.specs.Rounded.{Rounds, rounded}
@@ -225,6 +225,10 @@ nearest_value P near n d p h a =
     nearest_once P n d p _ a
     (closer_is_nearest P n d (below_of P (floor n d)) (above_of P (ceiling n d)) h (below_of_is P near (floor n d)) (above_of_is P near (ceiling n d)))
 
+nearest_is : (P : ℤ → Bool) (n : ℤ) (d : ℕ) → nearest_of P n d ≡ closer_of n d (below_of P (floor n d)) (above_of P (ceiling n d))
+unfolding nearest_of
+nearest_is P n d = refl
+
 -- ---- a fraction rounded three ways
 
 pub rounds_from : (P : ℤ → Bool) (n : ℤ) (d : ℕ) (low high : ℤ) (r : Rounded) → inside n d ≡ true → Below P (floor n d) low → Above P (ceiling n d) high → r.below ≡ low → r.nearest ≡ closer_of n d low high → r.above ≡ high → Rounds P n d r
@@ -268,6 +272,16 @@ ceiling_rises n m d e some_d some_e h =
 abbrev pub Answer : (ℤ → Bool) → ℤ → ℕ → Option Rounded → Type 0
 Answer P n d r = AnswersWhere (inside n d) (Rounds P n d) r
 
+pub rounded_answers : (P : ℤ → Bool) → ((z : ℤ) → Near P z) → (n : ℤ) (d : ℕ) (r : Option Rounded) → r ≡ rounded P n d → Answer P n d r
+rounded_answers P near n d r is =
+    subst (Answer P n d) (sym is)
+    (cond_both (inside n d) _ None (Answer P n d)
+    (λ e.
+    let low = below_of_is P near (floor n d) in
+    let high = above_of_is P near (ceiling n d) in
+    (e, rounds_from P n d (below_of P (floor n d)) (above_of P (ceiling n d)) _ e low high refl (nearest_is P n d) refl))
+    (λ e. e))
+
 pub rounding_rises : (P Q : ℤ → Bool) → Same P Q → (n m : ℤ) (d e : ℕ) (r s : Option Rounded) → Answer P n d r → Answer Q m e s → NotOver n d m e → NoLower r s
 rounding_rises P Q same n m d e None s a b h = tt
 rounding_rises P Q same n m d e (Some r) None a b h = tt
@@ -280,21 +294,6 @@ rounding_rises P Q same n m d e (Some r) (Some s) a b h =
         above_rises P Q same (ceiling n d) (ceiling m e) r.above s.above a.1.up b.1.up (ceiling_rises n m d e some_d some_e h),
       ),
     )
-
--- the same fraction has the same answer
-pub rounding_alike : (P Q : ℤ → Bool) → Same P Q → (n : ℤ) (d : ℕ) (r s : Option Rounded) → Answer P n d r → Answer Q n d s → r ≡ s
-rounding_alike P Q same n d None None a b = refl
-rounding_alike P Q same n d None (Some s) a b = absurd (true≢false (sym b.0 ∙ a))
-rounding_alike P Q same n d (Some r) None a b = absurd (true≢false (sym a.0 ∙ b))
-rounding_alike P Q same n d (Some r) (Some s) a b =
-    let level : NotOver n d n d = omega (arith, ints) in
-    let up = rounding_rises P Q same n n d d (Some r) (Some s) a b level in
-    let back = rounding_rises Q P (λ v. sym (same v)) n n d d (Some s) (Some r) b a level in
-    ap Some (λ i. record {
-      below = antisym r.below s.below up.0 back.0 i;
-      nearest = antisym r.nearest s.nearest up.1.0 back.1.0 i;
-      above = antisym r.above s.above up.1.1 back.1.1 i;
-    })
 
 -- ---- neighbours
 
