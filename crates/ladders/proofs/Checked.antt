@@ -1,21 +1,12 @@
 -- A stepped ladder's bands are checked one after the other: what is known on the way, and at the end.
-use Rattle.std.proofs.Common.{◌≡◌, ℕ, ◌+◌, ◌-◌, ◌<◌, ◌≤◌, leb, List, [], ◌∷◌, ◌++◌, map, length, get_or, take, drop, set, Some, None, sym, ap, ◌∙◌, arith}
-use Rattle.std.proofs.lemmas.List.{at_drop_more, take_all, take_more, take_more_set, map_push}
-use Rattle.std.proofs.lemmas.Bool.{le-leb, cond-true}
-use Rattle.ladders.specs.Bands.{band, described, description, band_fault, first_fault, later_fault, ladder_fault}
+use Rattle.std.proofs.Common.{◌≡◌, ℕ, ◌+◌, ◌<◌, List, [], ◌∷◌, ◌++◌, map, length, get_or, take, drop, set, None, sym, ap, ◌∙◌}
+use Rattle.std.proofs.lemmas.List.{at_drop_more, take_more, take_more_set, map_push}
+use Rattle.ladders.specs.Bands.{described, band_fault, later_fault}
 use Rattle.ladders.specs.Faults.{or_else}
 use Rattle.ladders.specs.declared.bands.Band.{Band}
 use Rattle.ladders.specs.declared.bands.Step.{Step}
-use Rattle.ladders.specs.declared.faults.LadderFault.{LadderFault}
-use Rattle.ladders.specs.declared.faults.LadderFault.TheVariants.{TooManyBands}
-use Rattle.ladders.specs.declared.ticks.Tick.{Tick}
 
 -- ---- one band more: a₀ is the first band, a the one before place i
-
--- a fault of the band at i is the rest's first
-pub faulty_band : (a₀ a : Band) (rest : List Band) (i : ℕ) (d : Band) (f : LadderFault) → i < length rest → later_fault a₀ rest ≡ later_fault a (drop i rest) → band_fault a (get_or rest i d) ≡ Some f → later_fault a₀ rest ≡ Some f
-faulty_band a₀ a rest i d f h inv e =
-    inv ∙ at_drop_more (later_fault a) rest i d h ∙ ap (λ o. or_else o (later_fault (get_or rest i d) (drop (i + 1) rest))) e
 
 -- where the band at i has none, a fault of the rest is one of what is left after it
 pub sound_band : (a₀ a : Band) (rest : List Band) (i : ℕ) (d : Band) → i < length rest → later_fault a₀ rest ≡ later_fault a (drop i rest) → band_fault a (get_or rest i d) ≡ None → later_fault a₀ rest ≡ later_fault (get_or rest i d) (drop (i + 1) rest)
@@ -29,23 +20,3 @@ one_more steps rest i s d h k inv e =
     ∙ ap (λ xs. xs ++ (described s ∷ [])) inv
     ∙ ap (λ x. take i rest ++ (x ∷ [])) e
     ∙ sym (take_more rest i d k)
-
--- ---- the whole ladder: b is the first band, and t its tick
-
-pub front : (bands : List Band) (d : Band) → 0 < length bands → bands ≡ get_or bands 0 d ∷ take (length bands - 1) (drop 1 bands)
-front [] d h = absurd (omega arith)
-front (b ∷ bs) d h = ap (λ xs. b ∷ xs) (sym (take_all (length (b ∷ bs) - 1) bs (omega arith)))
-
--- a fault of the later bands is the ladder's where the first band has none
-after_first : (b : Band) (rest : List Band) (t : Tick) → length rest ≤ 3 → first_fault b ≡ None → band None t ≡ b → ladder_fault (b ∷ rest) ≡ later_fault (band None t) rest
-after_first b rest t few sound is =
-    cond-true (leb (length rest) 3) (or_else (first_fault b) (later_fault b rest)) (Some TooManyBands) (le-leb (length rest) 3 few)
-    ∙ ap (λ o. or_else o (later_fault b rest)) sound
-    ∙ ap (λ x. later_fault x rest) (sym is)
-
-pub faulty_rest : (b : Band) (rest : List Band) (t : Tick) (f : LadderFault) → length rest ≤ 3 → first_fault b ≡ None → band None t ≡ b → later_fault (band None t) rest ≡ Some f → ladder_fault (b ∷ rest) ≡ Some f
-faulty_rest b rest t f few sound is e = after_first b rest t few sound is ∙ e
-
-pub whole_ladder : (b : Band) (rest : List Band) (t : Tick) (steps : List Step) → length rest ≤ 3 → first_fault b ≡ None → band None t ≡ b → later_fault (band None t) rest ≡ None → map described steps ≡ rest → (ladder_fault (b ∷ rest) ≡ None) × (description t steps ≡ b ∷ rest)
-whole_ladder b rest t steps few sound is later same =
-    (after_first b rest t few sound is ∙ later, ap (λ xs. band None t ∷ xs) same ∙ ap (λ x. x ∷ rest) is)

@@ -1,13 +1,13 @@
 -- The values of `Values` are what the relations of `Rounding` ask for.
-use Rattle.std.proofs.Common.{◌≡◌, ℕ, zero, suc, ◌<◌, ◌≤◌, Bool, true, false, ◌&&◌, ltb, ℤ, pos, negsuc, ◌+ℤ◌, ◌-ℤ◌, ◌*ℤ◌, neg_ℤ, nat_abs, ◌≤ℤ◌, ◌<ℤ◌, Some, None, Option, sym, refl, ap, ◌∙◌, subst, arith, MatchOption}
+use Rattle.std.proofs.Common.{◌≡◌, ℕ, zero, suc, ◌<◌, ◌≤◌, Bool, true, ◌&&◌, ltb, ℤ, pos, negsuc, ◌+ℤ◌, ◌-ℤ◌, ◌*ℤ◌, neg_ℤ, nat_abs, ◌≤ℤ◌, ◌<ℤ◌, Some, None, Option, sym, refl, ap, ◌∙◌, subst, arith}
 use lib.Signed.{le_z}
 use Rattle.std.proofs.lemmas.Int.{ints, by_lt_z}
-use Rattle.std.proofs.lemmas.Bool.{cond_both, cond-true, and_parts, ltb-true, true≢false, false≢true}
+use Rattle.std.proofs.lemmas.Bool.{cond_both, cond-true, and_parts, ltb-true, false≢true}
 use Rattle.ladders.specs.Laws.{Same, NotOver, NoLower}
 use Rattle.ladders.specs.Prices.{within}
 use Rattle.ladders.specs.Rounded.{Rounds, rounded}
 use Rattle.ladders.specs.declared.rounding.Rounded.{Rounded}
-use Rattle.ladders.specs.Rounding.{Above, Below, Nearest, Near, distance}
+use Rattle.ladders.specs.Rounding.{AnswersWhere, Above, Below, Nearest, Near, distance}
 use Rattle.ladders.specs.Fractions.{inside, floor, ceiling}
 use Rattle.ladders.specs.Values.{seek_up, seek_down, above_of, below_of, closer_of, nearest_of}
 use Rattle.ladders.specs.Products.{times_rises, times_apart, times_neg, times_sum, times_swap}
@@ -270,7 +270,7 @@ ceiling_rises n m d e some_d some_e h =
 
 -- what a set answers about a fraction
 abbrev pub Answer : (ℤ → Bool) → ℤ → ℕ → Option Rounded → Type 0
-Answer P n d r = MatchOption r (inside n d ≡ false) (λ p. (inside n d ≡ true) × Rounds P n d p)
+Answer P n d r = AnswersWhere (inside n d) (Rounds P n d) r
 
 pub rounded_answers : (P : ℤ → Bool) → ((z : ℤ) → Near P z) → (n : ℤ) (d : ℕ) (r : Option Rounded) → r ≡ rounded P n d → Answer P n d r
 rounded_answers P near n d r is =
@@ -294,21 +294,6 @@ rounding_rises P Q same n m d e (Some r) (Some s) a b h =
         above_rises P Q same (ceiling n d) (ceiling m e) r.above s.above a.1.up b.1.up (ceiling_rises n m d e some_d some_e h),
       ),
     )
-
--- the same fraction has the same answer
-pub rounding_alike : (P Q : ℤ → Bool) → Same P Q → (n : ℤ) (d : ℕ) (r s : Option Rounded) → Answer P n d r → Answer Q n d s → r ≡ s
-rounding_alike P Q same n d None None a b = refl
-rounding_alike P Q same n d None (Some s) a b = absurd (true≢false (sym b.0 ∙ a))
-rounding_alike P Q same n d (Some r) None a b = absurd (true≢false (sym a.0 ∙ b))
-rounding_alike P Q same n d (Some r) (Some s) a b =
-    let level : NotOver n d n d = omega (arith, ints) in
-    let up = rounding_rises P Q same n n d d (Some r) (Some s) a b level in
-    let back = rounding_rises Q P (λ v. sym (same v)) n n d d (Some s) (Some r) b a level in
-    ap Some (λ i. record {
-      below = antisym r.below s.below up.0 back.0 i;
-      nearest = antisym r.nearest s.nearest up.1.0 back.1.0 i;
-      above = antisym r.above s.above up.1.1 back.1.1 i;
-    })
 
 -- ---- neighbours
 

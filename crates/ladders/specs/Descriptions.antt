@@ -1,8 +1,9 @@
 -- A description has no fault exactly if it is lawful.
-use Rattle.std.specs.Prelude.{◌≡◌, ℕ, Bool, true, false, cond, ◌&&◌, List, [], ◌∷◌, length, ℤ, pos, ◌≤ℤ◌, is_ok, Some, None, Ok, Err, Decides, Option, Result, MatchResult, ◌≢◌, int_le, nat_le, unsigned_abs, refl}
+use Rattle.std.specs.Prelude.{◌≡◌, Bool, true, false, cond, ◌&&◌, List, [], ◌∷◌, length, ℤ, pos, ◌≤ℤ◌, Some, None, Decides, Option, int_le, nat_le, unsigned_abs, refl}
 use Rattle.std.proofs.Common.{sym, ap, ◌∙◌, arith}
 use Rattle.std.specs.List.{AllByRecursion}
 use Rattle.std.proofs.lemmas.Int.{ints}
+use Rattle.std.proofs.lemmas.Option.{none-some}
 use Rattle.std.proofs.lemmas.Bool.{and_parts, and_from, cond-true, leb-true, le-leb, true≢false}
 use Rattle.ladders.specs.Bands.{rises, start_fault, band_fault, first_fault, later_fault, ladder_fault, no_start}
 use Rattle.ladders.specs.Faults.{or_else, tick_fault}
@@ -16,19 +17,16 @@ use Rattle.ladders.specs.Orders.{lt_from, lt_test, le_from_test}
 
 -- ---- faults that are none
 
-some_is_not_none : (f : LadderFault) → Some f ≢ None
-some_is_not_none f e = let z : ◌≡◌ {A = ℕ} 0 1 = cc in omega arith
-
 pub none_of_both : (f g : Option LadderFault) → or_else f g ≡ None → (f ≡ None) × (g ≡ None)
 none_of_both None g e = (refl, e)
-none_of_both (Some f) g e = absurd (some_is_not_none f e)
+none_of_both (Some f) g e = absurd (none-some f (sym e))
 
 both_none : (f g : Option LadderFault) → f ≡ None → g ≡ None → or_else f g ≡ None
 both_none f g a b = ap (λ o. or_else o g) a ∙ b
 
 pub none_where : (t : Bool) (g : Option LadderFault) (f : LadderFault) → cond t g (Some f) ≡ None → (t ≡ true) × (g ≡ None)
 none_where true g f e = (refl, e)
-none_where false g f e = absurd (some_is_not_none f e)
+none_where false g f e = absurd (none-some f (sym e))
 
 where_none : (t : Bool) (g : Option LadderFault) (f : LadderFault) → t ≡ true → g ≡ None → cond t g (Some f) ≡ None
 where_none t g f a b = cond-true t g (Some f) a ∙ b
@@ -81,7 +79,7 @@ start_sound a b s h =
     (where_none (on_ticks a b s) None StartOffTick (and_from (multiple (unsigned_abs a.tick) s) (multiple (unsigned_abs b.tick) s) h.before h.own) refl))
 
 follows : (a b : Band) (o : Option ℤ) → b.start ≡ o → start_fault a b.tick o ≡ None → Follows a b
-follows a b None is e = absurd (some_is_not_none _ e)
+follows a b None is e = absurd (none-some _ (sym e))
 follows a b (Some s) is e = (s, is, start_lawful a b s e)
 
 -- ---- bands one after the other
@@ -112,12 +110,12 @@ later_sound a (b ∷ bs) ticks chain =
 
 no_start_lawful : (o : Option ℤ) → no_start o ≡ None → o ≡ None
 no_start_lawful None e = refl
-no_start_lawful (Some s) e = absurd (some_is_not_none _ e)
+no_start_lawful (Some s) e = absurd (none-some _ (sym e))
 
 -- ---- a whole ladder
 
 pub bands_lawful : (bs : List Band) → ladder_fault bs ≡ None → LawfulBands bs
-bands_lawful [] e = absurd (some_is_not_none _ e)
+bands_lawful [] e = absurd (none-some _ (sym e))
 bands_lawful (b ∷ bs) e =
     let few = none_where (nat_le (length bs) 3) (or_else (first_fault b) (later_fault b bs)) TooManyBands e in
     let each = none_of_both (first_fault b) (later_fault b bs) few.1 in
@@ -140,7 +138,6 @@ bands_sound (b ∷ bs) h =
     (both_none (no_start b.start) (tick_fault b.tick) (ap no_start h.joined.0) (tick_sound b.tick h.ticks.0))
     (later_sound b bs h.ticks.1 h.joined.1))
 
--- a constructor that succeeds where there is no fault, and otherwise tells it, takes exactly the lawful bands
-pub taken_if_lawful : {L : Type 0} (M : L → Type 0) (bs : List Band) (r : Result L LadderFault) → MatchResult r (λ l. (ladder_fault bs ≡ None) × M l) (λ f. ladder_fault bs ≡ Some f) → Decides (is_ok r) (LawfulBands bs)
-taken_if_lawful M bs (Ok l) h = (λ _. bands_lawful bs h.0, λ _. refl)
-taken_if_lawful M bs (Err f) h = (λ e. absurd (true≢false (sym e)), λ l. absurd (some_is_not_none f (sym h ∙ bands_sound bs l)))
+-- bands with a fault are not lawful, so a constructor is right to refuse them
+pub refused_unlawful : (bs : List Band) (f : LadderFault) → ladder_fault bs ≡ Some f → Decides false (LawfulBands bs)
+refused_unlawful bs f e = (λ t. absurd (true≢false (sym t)), λ l. absurd (none-some f (sym (bands_sound bs l) ∙ e)))

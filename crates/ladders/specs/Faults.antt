@@ -1,16 +1,32 @@
--- What makes a tick or a number of ladders unlawful, and the number that each refusal is known by.
-use Rattle.std.specs.Prelude.{ℕ, zero, suc, cond, ◌&&◌, ℤ, pos, Some, None, Option, int_le, nat_le}
+-- What makes a tick or a number of ladders unlawful, the number that each refusal is known by, and its text.
+use Rattle.std.specs.Prelude.{◌≡◌, ℕ, zero, suc, cond, ◌&&◌, List, ℤ, pos, Some, None, Option, Result, MatchResult, codes, int_le, nat_le}
 use Rattle.ladders.specs.declared.faults.LadderFault.{LadderFault}
-use Rattle.ladders.specs.declared.faults.LadderFault.TheVariants.{NoLadder, TooManyLadders, TickOutOfRange}
+use Rattle.ladders.specs.declared.faults.LadderFault.TheVariants.{NoLadder, TooManyLadders, NoBand, TooManyBands, TickOutOfRange, StartMisplaced, StartOutOfRange, StartsNotRising, StartOffTick}
 
 -- a set that is not lawful is refused with 13, whatever is wrong with it
 abbrev pub number : LadderFault → ℕ
 number f = 13
 
+-- what is wrong, as a clerk reads it
+abbrev pub reason : LadderFault → List ℕ
+reason NoLadder = codes "no ladder"
+reason TooManyLadders = codes "more than 16 ladders"
+reason NoBand = codes "no band"
+reason TooManyBands = codes "more than 4 bands"
+reason TickOutOfRange = codes "a tick is not 1 to 1000000"
+reason StartMisplaced = codes "a start without its tick"
+reason StartOutOfRange = codes "a start is beyond the price limit"
+reason StartsNotRising = codes "the starts do not rise"
+reason StartOffTick = codes "a start is no multiple of its own tick and the tick before"
+
 -- the first fault, if there is one
 abbrev pub or_else : Option LadderFault → Option LadderFault → Option LadderFault
 or_else None g = g
 or_else (Some f) g = Some f
+
+-- what is described is taken, as P tells, exactly where it has no fault, and otherwise refused with the fault
+abbrev pub TakenUnless : {A : Type 0} → Option LadderFault → (A → Type 0) → Result A LadderFault → Type 0
+TakenUnless fault P r = MatchResult r (λ a. (fault ≡ None) × P a) (λ f. fault ≡ Some f)
 
 -- a tick is 1 to 1,000,000 points
 abbrev pub tick_fault : ℤ → Option LadderFault

@@ -1,12 +1,11 @@
 -- Rounding on a stepped ladder is rounding to the tick of the band that the number lies in.
-use Rattle.std.specs.Prelude.{◌≡◌, ℕ, ◌+◌, ◌<◌, ◌≤◌, Bool, true, false, List, [], ◌∷◌, map, length, drop, ℤ, pos, ◌+ℤ◌, neg_ℤ, ◌≤ℤ◌, ◌<ℤ◌, is_some, Some, None, Option, MatchOption, int_lt, nat_le, slice_index_or, unsigned_abs, refl}
+use Rattle.std.specs.Prelude.{◌≡◌, ◌<◌, ◌≤◌, Bool, true, false, List, [], ◌∷◌, map, length, ℤ, pos, ◌+ℤ◌, neg_ℤ, ◌≤ℤ◌, ◌<ℤ◌, is_some, Some, None, Option, int_lt, nat_le, unsigned_abs, refl}
 use Rattle.std.proofs.Common.{sym, ap, ◌∙◌, subst, arith}
 use Rattle.std.specs.Int.{int_rem_euclid}
 use Rattle.std.proofs.lemmas.Int.{ints, by_lt_z}
 use Rattle.std.proofs.lemmas.Bool.{cond-true, cond-false, cond_both, true≢false}
-use Rattle.std.proofs.lemmas.List.{at_drop_more}
 use Rattle.ladders.specs.Multiples.{multiple}
-use Rattle.ladders.specs.Rounding.{Above, Below, Near}
+use Rattle.ladders.specs.Rounding.{AnswersWhere, Above, Below, Near}
 use Rattle.ladders.specs.Bands.{tick_at, in_bands, band, described, description, first_fault, later_fault, ladder_fault}
 use Rattle.ladders.specs.Faults.{or_else}
 use Rattle.ladders.specs.declared.bands.Band.{Band}
@@ -132,25 +131,6 @@ stepped_is_near a t bs e j z =
     let short = up_is_near k z range.0 in
     record { price = up; on = reached.on; from = reached.reaches; to = omega (arith, ints) }
 
--- ---- one band more in the search for the tick at v
-
-drop_described : (t : Tick) (steps : List Step) (k : ℕ) (b : Step) (v : ℤ) → k < length steps → b ≡ slice_index_or steps k b → at t (drop k steps) v ≡ at t (b ∷ drop (k + 1) steps) v
-drop_described t steps k b v h read = at_drop_more (λ bs. at t bs v) steps k b h ∙ ap (λ x. at t (x ∷ drop (k + 1) steps) v) (sym read)
-
--- v lies under the start of the band at k: the tick so far is the one
-pub stops_at : (t₀ t : Tick) (steps : List Step) (k : ℕ) (b : Step) (v s : ℤ) → s ≡ b.start → k < length steps → b ≡ slice_index_or steps k b → at t₀ steps v ≡ at t (drop k steps) v → int_lt v s ≡ true → at t₀ steps v ≡ pos t.points
-stops_at t₀ t steps k b v s start h read inv below =
-    inv
-    ∙ drop_described t steps k b v h read
-    ∙ cond-true (int_lt v b.start) (pos t.points) (at b.tick (drop (k + 1) steps) v) (subst (λ (x : ℤ). int_lt v x ≡ true) start below)
-
--- v lies in the band at k or a later one
-pub goes_past : (t₀ t : Tick) (steps : List Step) (k : ℕ) (b : Step) (v s : ℤ) → s ≡ b.start → k < length steps → b ≡ slice_index_or steps k b → at t₀ steps v ≡ at t (drop k steps) v → int_lt v s ≡ false → at t₀ steps v ≡ at b.tick (drop (k + 1) steps) v
-goes_past t₀ t steps k b v s start h read inv over =
-    inv
-    ∙ drop_described t steps k b v h read
-    ∙ cond-false (int_lt v b.start) (pos t.points) (at b.tick (drop (k + 1) steps) v) (subst (λ (x : ℤ). int_lt v x ≡ false) start over)
-
 -- ---- a checked ladder
 
 -- the later bands of a ladder without a fault have none
@@ -164,12 +144,12 @@ sound_later t bs e =
     no_value (Some f) e = absurd (true≢false e)
 
 -- the answer of a tick is the ladder's, where it is the tick at v
-pub above_in_ladder : (t k : Tick) (bs : List Step) (v : ℤ) (r : Option ℤ) → is_some (ladder_fault (description t bs)) ≡ false → pos k.points ≡ at t bs v → MatchOption r (within v ≡ false) (λ p. (within v ≡ true) × Above (multiple k.points) v p) → MatchOption r (within v ≡ false) (λ p. (within v ≡ true) × Above (stepped t bs) v p)
+pub above_in_ladder : (t k : Tick) (bs : List Step) (v : ℤ) (r : Option ℤ) → is_some (ladder_fault (description t bs)) ≡ false → pos k.points ≡ at t bs v → AnswersWhere (within v) (Above (multiple k.points) v) r → AnswersWhere (within v) (Above (stepped t bs) v) r
 above_in_ladder t k bs v None sound is r = r
 above_in_ladder t k bs v (Some p) sound is r =
     (r.0, above_in_band (band None t) t bs refl (sound_later t bs sound) v p (subst (λ (x : ℤ). Above (multiple (unsigned_abs x)) v p) is r.1))
 
-pub below_in_ladder : (t k : Tick) (bs : List Step) (v : ℤ) (r : Option ℤ) → is_some (ladder_fault (description t bs)) ≡ false → pos k.points ≡ at t bs v → MatchOption r (within v ≡ false) (λ p. (within v ≡ true) × Below (multiple k.points) v p) → MatchOption r (within v ≡ false) (λ p. (within v ≡ true) × Below (stepped t bs) v p)
+pub below_in_ladder : (t k : Tick) (bs : List Step) (v : ℤ) (r : Option ℤ) → is_some (ladder_fault (description t bs)) ≡ false → pos k.points ≡ at t bs v → AnswersWhere (within v) (Below (multiple k.points) v) r → AnswersWhere (within v) (Below (stepped t bs) v) r
 below_in_ladder t k bs v None sound is r = r
 below_in_ladder t k bs v (Some p) sound is r =
     (r.0, below_in_band (band None t) t bs refl (sound_later t bs sound) v p (subst (λ (x : ℤ). Below (multiple (unsigned_abs x)) v p) is r.1))

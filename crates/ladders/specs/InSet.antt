@@ -1,5 +1,5 @@
 -- What is lawful on a ladder of a set.
-use Rattle.std.specs.Prelude.{◌≡◌, ℕ, zero, suc, ◌+◌, ◌<◌, ◌≤◌, Bool, true, false, cond, List, [], ◌∷◌, ◌++◌, length, take, drop, ℤ, Some, None, Option, MatchOption, slice_index_or, slice_set, refl}
+use Rattle.std.specs.Prelude.{◌≡◌, ℕ, zero, suc, ◌+◌, ◌<◌, ◌≤◌, Bool, true, cond, List, [], ◌∷◌, ◌++◌, length, take, drop, ℤ, Some, None, Option, slice_index_or, slice_set, refl}
 use Rattle.std.proofs.Common.{sym, ap, ◌∙◌, subst, arith}
 use Rattle.std.proofs.lemmas.List.{at_drop_more, get_or-take, length-take, length-take-le, take_more, take_more_set}
 use Rattle.std.proofs.lemmas.Int.{ints}
@@ -7,7 +7,7 @@ use Rattle.ladders.specs.Faults.{or_else, size_fault}
 use Rattle.ladders.specs.declared.faults.LadderFault.{LadderFault}
 use Rattle.std.proofs.lemmas.Bool.{cond_both}
 use Rattle.ladders.specs.Prices.{within}
-use Rattle.ladders.specs.Rounding.{Above, Below, Near}
+use Rattle.ladders.specs.Rounding.{AnswersWhere, Above, Below, Near}
 use Rattle.ladders.specs.Sets.{lawful_at, each_fault, set_fault}
 
 module _ {L : Type 0} (holds : L → ℤ → Bool) where
@@ -37,17 +37,17 @@ module _ {L : Type 0} (holds : L → ℤ → Bool) where
   set_is_near near (l ∷ ls) (suc n) z = set_is_near near ls n z
 
 -- where every whole number is lawful, a number is its own rounding
-pub above_itself : (P : ℤ → Bool) → ((v : ℤ) → P v ≡ true) → (v : ℤ) (r : Option ℤ) → r ≡ cond (within v) (Some v) None → MatchOption r (within v ≡ false) (λ p. (within v ≡ true) × Above P v p)
+pub above_itself : (P : ℤ → Bool) → ((v : ℤ) → P v ≡ true) → (v : ℤ) (r : Option ℤ) → r ≡ cond (within v) (Some v) None → AnswersWhere (within v) (Above P v) r
 above_itself P all v r e =
-    subst (λ (o : Option ℤ). MatchOption o (within v ≡ false) (λ p. (within v ≡ true) × Above P v p)) (sym e)
-    (cond_both (within v) (Some v) None (λ o. MatchOption o (within v ≡ false) (λ p. (within v ≡ true) × Above P v p))
+    subst (AnswersWhere (within v) (Above P v)) (sym e)
+    (cond_both (within v) (Some v) None (AnswersWhere (within v) (Above P v))
     (λ t. (t, record { on = all v; reaches = omega (arith, ints); least = λ q _ l. l }))
     (λ t. t))
 
-pub below_itself : (P : ℤ → Bool) → ((v : ℤ) → P v ≡ true) → (v : ℤ) (r : Option ℤ) → r ≡ cond (within v) (Some v) None → MatchOption r (within v ≡ false) (λ p. (within v ≡ true) × Below P v p)
+pub below_itself : (P : ℤ → Bool) → ((v : ℤ) → P v ≡ true) → (v : ℤ) (r : Option ℤ) → r ≡ cond (within v) (Some v) None → AnswersWhere (within v) (Below P v) r
 below_itself P all v r e =
-    subst (λ (o : Option ℤ). MatchOption o (within v ≡ false) (λ p. (within v ≡ true) × Below P v p)) (sym e)
-    (cond_both (within v) (Some v) None (λ o. MatchOption o (within v ≡ false) (λ p. (within v ≡ true) × Below P v p))
+    subst (AnswersWhere (within v) (Below P v)) (sym e)
+    (cond_both (within v) (Some v) None (AnswersWhere (within v) (Below P v))
     (λ t. (t, record { on = all v; reaches = omega (arith, ints); greatest = λ q _ l. l }))
     (λ t. t))
 
@@ -64,15 +64,8 @@ module _ {D L : Type 0} (fault : D → Option LadderFault) (prices : D → ℤ �
   at_drop : (ds : List D) (i : ℕ) (d : D) → i < length ds → d ≡ slice_index_or ds i d → each_fault fault (drop i ds) ≡ or_else (fault d) (each_fault fault (drop (i + 1) ds))
   at_drop ds i d h read = at_drop_more (each_fault fault) ds i d h ∙ ap (λ x. or_else (fault x) (each_fault fault (drop (i + 1) ds))) (sym read)
 
-  pub faulty_at : (ds : List D) (i : ℕ) (d : D) (f : LadderFault) → i < length ds → d ≡ slice_index_or ds i d → each_fault fault ds ≡ each_fault fault (drop i ds) → fault d ≡ Some f → each_fault fault ds ≡ Some f
-  faulty_at ds i d f h read inv e = inv ∙ at_drop ds i d h read ∙ ap (λ o. or_else o (each_fault fault (drop (i + 1) ds))) e
-
   pub sound_at : (ds : List D) (i : ℕ) (d : D) → i < length ds → d ≡ slice_index_or ds i d → each_fault fault ds ≡ each_fault fault (drop i ds) → fault d ≡ None → each_fault fault ds ≡ each_fault fault (drop (i + 1) ds)
   sound_at ds i d h read inv e = inv ∙ at_drop ds i d h read ∙ ap (λ o. or_else o (each_fault fault (drop (i + 1) ds))) e
-
-  pub told_first : (ds : List D) (d : D) (l : L) → 0 < length ds → d ≡ slice_index_or ds 0 d → ((v : ℤ) → holds l v ≡ prices d v) → Told prices holds (take 1 ds) (l ∷ [])
-  told_first [] d l h read e = absurd (omega arith)
-  told_first (x ∷ xs) d l h read e = (λ v. e v ∙ ap (λ y. prices y v) read, tt)
 
   told_push : (ds : List D) (ls : List L) (d : D) (l : L) → Told prices holds ds ls → ((v : ℤ) → holds l v ≡ prices d v) → Told prices holds (ds ++ (d ∷ [])) (ls ++ (l ∷ []))
   told_push [] [] d l t e = (e, tt)

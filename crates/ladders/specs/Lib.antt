@@ -3,7 +3,6 @@ pub mod Multiples
 pub mod Faults
 pub mod Lawful
 pub mod Bands
-pub mod Makes
 pub mod Sets
 pub mod Fractions
 pub mod Rounding

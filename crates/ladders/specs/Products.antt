@@ -1,9 +1,9 @@
 -- Laws of whole numbers times a natural number. The library has the product and not these.
 use Rattle.std.specs.Prelude.{◌≡◌, ℕ, zero, suc, ◌*◌, ◌^◌, ◌<◌, ◌≤◌, ℤ, pos, negsuc, ◌+ℤ◌, ◌-ℤ◌, ◌*ℤ◌, neg_ℤ, ◌≤ℤ◌, ◌<ℤ◌, FitsSigned, unsigned_abs, refl}
-use Rattle.std.proofs.Common.{sym, ap, ◌∙◌, subst, mul-le-mul_right, zero-mul, mul_right_comm, mul-le-mul, le_of_lt, arith, to_z, of_z}
+use Rattle.std.proofs.Common.{sym, ap, ◌∙◌, subst, mul-le-mul_right, zero-mul, mul_right_comm, arith, to_z, of_z}
 use Rattle.std.proofs.Math.IntN.{suc_ℤ-*ℤ, +ℤ_one, +ℤ_idr, ℤ_ind}
 use Rattle.std.specs.Int.{w64, w128}
-use Rattle.std.proofs.lemmas.Int.{ints, to_z-of_z}
+use Rattle.std.proofs.lemmas.Int.{ints, to_z-of_z, fits_signed_from_abs}
 
 -- a larger number has a larger product
 pub times_rises : (a b : ℤ) (t : ℕ) → a ≤ℤ b → (a *ℤ pos t) ≤ℤ (b *ℤ pos t)
@@ -26,10 +26,6 @@ pub times_apart : (a b : ℤ) (t : ℕ) → a <ℤ b → ((a *ℤ pos t) +ℤ po
 times_apart a b t h =
     let n : (a +ℤ pos 1) ≤ℤ b = omega (arith, ints) in
     subst (λ (x : ℤ). x ≤ℤ (b *ℤ pos t)) (times_next a t) (times_rises (a +ℤ pos 1) b t n)
-
-pub abs_times : (a : ℤ) (t : ℕ) → unsigned_abs (a *ℤ pos t) ≡ unsigned_abs a * t
-abs_times (pos a) t = refl
-abs_times (negsuc a) t = omega (arith, ints)
 
 pub neg_times : (q t : ℕ) → neg_ℤ (pos q) *ℤ pos t ≡ neg_ℤ (pos (q * t))
 neg_times zero t = let z : 0 * t ≡ 0 = zero-mul t in omega (arith, ints)
@@ -71,17 +67,6 @@ pub times_neg : (a : ℤ) (t : ℕ) → neg_ℤ a *ℤ pos t ≡ neg_ℤ (a *ℤ
 times_neg (pos a) t = neg_times a t
 times_neg (negsuc a) t = omega (arith, ints)
 
--- the product of a signed number of 64 bits and one of 32
-pub times_bound : (a : ℤ) (t : ℕ) → unsigned_abs a ≤ 2 ^ 63 → t < 2 ^ 32 → unsigned_abs (a *ℤ pos t) < 2 ^ 96
-times_bound a t h k =
-    let m = mul-le-mul h (le_of_lt k) in
-    let e = abs_times a t in
-    omega arith
-
-pub bound_fits : (z : ℤ) → unsigned_abs z < 2 ^ 96 → FitsSigned w128 z
-bound_fits (pos n) h = record { sfits = omega arith }
-bound_fits (negsuc n) h = record { sfits = omega arith }
-
 pub abs_fits : (z : ℤ) → FitsSigned w64 z → unsigned_abs z ≤ 2 ^ 63
 abs_fits (pos n) f = let h = f.sfits in omega arith
 abs_fits (negsuc n) f = let h = f.sfits in omega arith
@@ -89,7 +74,7 @@ abs_fits (negsuc n) f = let h = f.sfits in omega arith
 -- a difference of such products, as it is computed on bits
 pub difference : (x y : ℤ) → unsigned_abs x < 2 ^ 96 → unsigned_abs y < 2 ^ 96 → to_z w128 (of_z w128 (to_z w128 (of_z w128 x) -ℤ to_z w128 (of_z w128 y))) ≡ x -ℤ y
 difference x y h k =
-    let same = ap (λ z. z -ℤ to_z w128 (of_z w128 y)) (to_z-of_z w128 x (bound_fits x h)) ∙ ap (λ z. x -ℤ z) (to_z-of_z w128 y (bound_fits y k)) in
+    let same = ap (λ z. z -ℤ to_z w128 (of_z w128 y)) (to_z-of_z w128 x (fits_signed_from_abs w128 x (omega arith))) ∙ ap (λ z. x -ℤ z) (to_z-of_z w128 y (fits_signed_from_abs w128 y (omega arith))) in
     ap (λ z. to_z w128 (of_z w128 z)) same ∙ to_z-of_z w128 (x -ℤ y) (less_fits x y h k)
   where
     less_fits : (a b : ℤ) → unsigned_abs a < 2 ^ 96 → unsigned_abs b < 2 ^ 96 → FitsSigned w128 (a -ℤ b)

@@ -1,5 +1,9 @@
 -- What rounding to lawful prices means. `lawful` tells which whole numbers are lawful.
-use Rattle.std.specs.Prelude.{◌≡◌, ℕ, ◌≤◌, Bool, true, ℤ, pos, ◌+ℤ◌, ◌-ℤ◌, ◌*ℤ◌, ◌≤ℤ◌, ◌<ℤ◌, unsigned_abs}
+use Rattle.std.specs.Prelude.{◌≡◌, ℕ, ◌≤◌, Bool, true, false, ℤ, pos, ◌+ℤ◌, ◌-ℤ◌, ◌*ℤ◌, ◌≤ℤ◌, ◌<ℤ◌, Option, MatchOption, unsigned_abs}
+
+-- there is an answer, of which P holds, exactly where the test does
+abbrev pub AnswersWhere : {A : Type 0} → Bool → (A → Type 0) → Option A → Type 0
+AnswersWhere test P r = MatchOption r (test ≡ false) (λ p. (test ≡ true) × P p)
 
 -- the least lawful price not under v
 pub record Above (lawful : ℤ → Bool) (v r : ℤ) : Type 0 where

@@ -3,11 +3,11 @@ use Rattle.std.specs.Prelude.{◌≡◌, ℕ, zero, suc, ◌/◌, ◌%◌, ◌<�
 use Rattle.std.proofs.Common.{sym, ap, ◌∙◌, subst, mod-lt, div-add-mod', suc-mul, arith}
 use Rattle.std.proofs.Math.Nat.{mul-mod_left}
 use Rattle.std.specs.Int.{int_div_euclid, int_rem_euclid}
-use Rattle.std.proofs.lemmas.Int.{ints, by_lt_z}
+use Rattle.std.proofs.lemmas.Int.{ints, by_lt_z, unsigned_abs-mul}
 use Rattle.std.proofs.lemmas.Bool.{eq-eqb, eqb-true}
 use Rattle.ladders.specs.Multiples.{multiple}
 use Rattle.ladders.specs.Rounding.{Above, Below, Near}
-use Rattle.ladders.specs.Products.{times_rises, times_apart, abs_times, neg_times}
+use Rattle.ladders.specs.Products.{times_rises, times_apart, neg_times}
 
 -- a number is its quotient times t, rounded down, and a rest
 pub split : (z : ℤ) (t : ℕ) → 0 < t → z ≡ (int_div_euclid z (pos t) *ℤ pos t) +ℤ int_rem_euclid z (pos t)
@@ -24,7 +24,7 @@ rest_range (pos a) t h = let b = mod-lt a h in (omega (arith, ints), omega (arit
 rest_range (negsuc a) t h = (omega (arith, ints), omega (arith, ints))
 
 pub times_multiple : (k : ℤ) (t : ℕ) → multiple t (k *ℤ pos t) ≡ true
-times_multiple k t = eq-eqb _ 0 (ap (λ x. x % t) (abs_times k t) ∙ mul-mod_left (unsigned_abs k) t)
+times_multiple k t = eq-eqb _ 0 (ap (λ x. x % t) (unsigned_abs-mul k (pos t)) ∙ mul-mod_left (unsigned_abs k) t)
 
 pub multiple_times : (t : ℕ) (z : ℤ) → multiple t z ≡ true → (k : ℤ) × (z ≡ k *ℤ pos t)
 multiple_times t (pos a) m =

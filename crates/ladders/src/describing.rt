@@ -1,7 +1,7 @@
 // What describes a ladder, unchecked: a tick for an even ladder, bands for a stepped one.
-ghost use Rattle.std.specs.Prelude.{◌≡◌, Bool, ℤ, Some, None, Option, MatchResult, unsigned_abs};
+ghost use Rattle.std.specs.Prelude.{◌≡◌, Bool, ℤ, Option, unsigned_abs};
 ghost use Rattle.ladders.specs.Bands.{in_bands, ladder_fault};
-ghost use Rattle.ladders.specs.Faults.{tick_fault};
+ghost use Rattle.ladders.specs.Faults.{TakenUnless, tick_fault};
 ghost use Rattle.ladders.specs.Multiples.{multiple};
 ghost use Rattle.ladders.specs.declared.faults.LadderFault.{LadderFault as Fault};
 
@@ -11,6 +11,7 @@ use crate::rungs::Ladder;
 use crate::stepping::SteppedLadder;
 use crate::ticks::Tick;
 
+// No TryFrom, whose impls have no place for what a description means.
 pub trait Describes<L: Ladder> {
     // What is wrong with the description, if anything.
     ghost fault: { Self → Option Fault };
@@ -20,7 +21,7 @@ pub trait Describes<L: Ladder> {
 
     // The ladder with these lawful prices.
     fn checked(&self) -> Result<L, LadderFault>
-        ensures { MatchResult result (λ l. (fault self.now ≡ None) × ((v : ℤ) → L.Ladder.holds l v ≡ prices self.now v)) (λ f. fault self.now ≡ Some f) };
+        ensures { TakenUnless (fault self.now) (λ l. (v : ℤ) → L.Ladder.holds l v ≡ prices self.now v) result };
 }
 
 impl Describes<Tick> for i64 {

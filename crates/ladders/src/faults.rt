@@ -1,6 +1,9 @@
 // Why a ladder, or a set of ladders, is not lawful.
-ghost use Rattle.std.specs.Prelude.{◌≡◌};
-ghost use Rattle.ladders.specs.Faults.{number};
+ghost use Rattle.std.specs.Prelude.{◌≡◌, Some};
+ghost use Rattle.ladders.specs.Faults.{number, reason};
+
+use std::error::Error;
+use std::fmt;
 
 #[derive(Clone, Copy, PartialEq, Eq, Debug)]
 pub enum LadderFault {
@@ -25,3 +28,25 @@ impl LadderFault {
         13
     }
 }
+
+impl fmt::Display for LadderFault {
+    ghost output = { λ f. Some (reason f) };
+
+    fn fmt<W: fmt::Write>(&self, f: &mut fmt::Formatter<W>) -> fmt::Result {
+        f.write_str(match self {
+            LadderFault::NoLadder => "no ladder",
+            LadderFault::TooManyLadders => "more than 16 ladders",
+            LadderFault::NoBand => "no band",
+            LadderFault::TooManyBands => "more than 4 bands",
+            LadderFault::TickOutOfRange => "a tick is not 1 to 1000000",
+            LadderFault::StartMisplaced => "a start without its tick",
+            LadderFault::StartOutOfRange => "a start is beyond the price limit",
+            LadderFault::StartsNotRising => "the starts do not rise",
+            LadderFault::StartOffTick => {
+                "a start is no multiple of its own tick and the tick before"
+            }
+        })
+    }
+}
+
+impl Error for LadderFault {}

@@ -6,7 +6,8 @@ ghost use Rattle.ladders.specs.Rounded.{rounded};
 use crate::rounding::{Rounded, round};
 use crate::sets::LadderSet;
 
-// Each fraction rounded on its own set.
+// Each fraction rounded on its own set: apart from `round_two`, so that a wrong pair fails here, at its clause, and not in
+// the proofs of the laws.
 fn both<S: LadderSet, R: LadderSet>(
     first: &S,
     second: &R,

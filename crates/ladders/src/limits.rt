@@ -8,5 +8,5 @@ pub const LIMIT: i64 = 1_000_000_000;
 pub fn is_within(v: i64) -> bool
     ensures { result ≡ within v }
 {
-    (-LIMIT <= v) & (v <= LIMIT)
+    (-LIMIT..=LIMIT).contains(&v)
 }

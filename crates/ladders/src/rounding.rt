@@ -1,9 +1,10 @@
-// Rounding to the lawful prices of a ladder, on any set of ladders.
-ghost use Rattle.std.specs.Prelude.{◌≡◌, ◌^◌, ◌<◌, true, false, ◌&&◌, pos, ◌+ℤ◌, ◌-ℤ◌, ◌*ℤ◌, ◌≤ℤ◌, IfSome, MatchOption, unsigned_abs};
+// Rounding to the lawful prices of a ladder, on any set of ladders. A fraction is a pair, as in the rules, and a set and a
+// ladder's number stay two parameters, as callers have them.
+ghost use Rattle.std.specs.Prelude.{◌≡◌, ◌^◌, ◌<◌, true, ◌&&◌, pos, ◌+ℤ◌, ◌-ℤ◌, ◌*ℤ◌, ◌≤ℤ◌, IfSome, unsigned_abs};
 ghost use Rattle.ladders.specs.Fractions.{inside, floor, ceiling};
 ghost use Rattle.ladders.specs.Prices.{within};
 ghost use Rattle.ladders.specs.Rounded.{Rounds, rounded};
-ghost use Rattle.ladders.specs.Rounding.{Nearest};
+ghost use Rattle.ladders.specs.Rounding.{AnswersWhere, Nearest};
 ghost use Rattle.ladders.specs.Values.{closer_of, nearest_price};
 
 use crate::limits::LIMIT;
@@ -21,10 +22,7 @@ pub struct Rounded {
 pub fn is_lawful<S: LadderSet>(set: &S, ladder: u8, price: i64) -> bool
     ensures { result ≡ (within price && S.lawful set.now ladder price) }
 {
-    match set.below(ladder, price) {
-        Some(p) => p == price,
-        None => false,
-    }
+    set.below(ladder, price) == Some(price)
 }
 
 // Whether a fraction has a denominator and lies within the price limit.
@@ -33,7 +31,7 @@ fn is_inside(fraction: (i64, u32)) -> bool
 {
     let (n, d) = fraction;
     let most = LIMIT * i64::from(d);
-    (0 < d) & ((-most <= n) & (n <= most))
+    0 < d && (-most..=most).contains(&n)
 }
 
 // The whole numbers on either side of a fraction, equal where it is whole.
@@ -74,7 +72,7 @@ fn closer(fraction: (i64, u32), low: i64, high: i64) -> i64
 // The fraction (numerator, denominator) rounded to the lawful prices of a ladder: nothing for a denominator of zero or a
 // fraction beyond the price limit.
 pub fn round<S: LadderSet>(set: &S, ladder: u8, fraction: (i64, u32)) -> Option<Rounded>
-    ensures rule { MatchOption result (inside fraction.0 fraction.1 ≡ false) (λ p. (inside fraction.0 fraction.1 ≡ true) × Rounds (S.lawful set.now ladder) fraction.0 fraction.1 p) }
+    ensures rule { AnswersWhere (inside fraction.0 fraction.1) (Rounds (S.lawful set.now ladder) fraction.0 fraction.1) result }
     ensures value { result ≡ rounded (S.lawful set.now ladder) fraction.0 fraction.1 }
     ensures close { IfSome result (λ p. p.above ≤ℤ (p.below +ℤ pos 1000000)) }
 {
@@ -93,11 +91,8 @@ pub fn round<S: LadderSet>(set: &S, ladder: u8, fraction: (i64, u32)) -> Option<
 
 // The lawful price closest to a fraction; of two equally close, the larger.
 pub fn nearest<S: LadderSet>(set: &S, ladder: u8, fraction: (i64, u32)) -> Option<i64>
-    ensures rule { MatchOption result (inside fraction.0 fraction.1 ≡ false) (λ p. (inside fraction.0 fraction.1 ≡ true) × Nearest (S.lawful set.now ladder) fraction.0 fraction.1 p) }
+    ensures rule { AnswersWhere (inside fraction.0 fraction.1) (Nearest (S.lawful set.now ladder) fraction.0 fraction.1) result }
     ensures value { result ≡ nearest_price (S.lawful set.now ladder) fraction.0 fraction.1 }
 {
-    match round(set, ladder, fraction) {
-        Some(r) => Some(r.nearest),
-        None => None,
-    }
+    round(set, ladder, fraction).map(|r| r.nearest)
 }

@@ -1,13 +1,10 @@
 // A set of 1 to 16 ladders, numbered from 0.
-ghost use Rattle.std.specs.Prelude.{◌≡◌, ℕ, ◌≤◌, Bool, true, false, length, take, ℤ, if◌then◌else◌, Some, None, MatchOption, MatchResult};
+ghost use Rattle.std.specs.Prelude.{◌≡◌, ℕ, ◌≤◌, Bool, true, length, take, ℤ, if◌then◌else◌, Some, None};
 ghost use Rattle.ladders.specs.Prices.{within};
-ghost use Rattle.ladders.specs.Rounding.{Above, Below, Near};
-ghost use Rattle.ladders.specs.Faults.{size_fault};
-ghost use Rattle.ladders.specs.Makes.{even, rungs};
+ghost use Rattle.ladders.specs.Rounding.{AnswersWhere, Above, Below, Near};
+ghost use Rattle.ladders.specs.Faults.{TakenUnless, size_fault};
 ghost use Rattle.ladders.specs.Sets.{lawful_at, set_fault};
 ghost use Rattle.ladders.specs.InSet.{lacks, set_is_near};
-ghost use Rattle.ladders.specs.ToTick.{tick_is_near};
-ghost use Rattle.ladders.specs.InBand.{ladder_is_near};
 
 use crate::describing::Describes;
 use crate::faults::LadderFault;
@@ -27,11 +24,11 @@ pub trait LadderSet {
 
     // The least lawful price not under v, for v within the price limit. It may pass the limit.
     fn above(&self, ladder: u8, v: i64) -> Option<i64>
-        ensures { MatchOption result (within v ≡ false) (λ p. (within v ≡ true) × Above (lawful self.now ladder) v p) };
+        ensures { AnswersWhere (within v) (Above (lawful self.now ladder) v) result };
 
     // The greatest lawful price not over v, for v within the price limit. It may pass the limit.
     fn below(&self, ladder: u8, v: i64) -> Option<i64>
-        ensures { MatchOption result (within v ≡ false) (λ p. (within v ≡ true) × Below (lawful self.now ladder) v p) };
+        ensures { AnswersWhere (within v) (Below (lawful self.now ladder) v) result };
 
     ghost counted: { (s : Self) → (1 ≤ size s) × (size s ≤ 16) };
 
@@ -42,7 +39,8 @@ pub trait LadderSet {
     ghost dense: { (s : Self) (n : ℕ) (z : ℤ) → Near (lawful s n) z };
 }
 
-// A set of ladders of one make. The places from `count` on are not used.
+// A set of ladders of one make. The places from `count` on are not used: an array, since nothing here allocates, and no
+// ArrayVec, whose `new` asks that L has a default.
 #[derive(Drop)]
 pub struct SetOf<L> {
     ladders: [L; 16],
@@ -56,7 +54,7 @@ pub type SteppedSet = SetOf<SteppedLadder>;
 
 // A number of ladders, 1 to 16.
 fn checked_count(count: usize) -> Result<u8, LadderFault>
-    ensures { MatchResult result (λ n. (size_fault count ≡ None) × ((n ≡ count) × ((1 ≤ count) × (count ≤ 16)))) (λ f. size_fault count ≡ Some f) }
+    ensures { TakenUnless (size_fault count) (λ n. (n ≡ count) × ((1 ≤ count) × (count ≤ 16))) result }
 {
     match count {
         0 => Err(LadderFault::NoLadder),
@@ -69,87 +67,50 @@ fn checked_count(count: usize) -> Result<u8, LadderFault>
 fn whole(v: i64) -> Option<i64>
     ensures { result ≡ (if within v then Some v else None) }
 {
-    if is_within(v) { Some(v) } else { None }
+    is_within(v).then_some(v)
 }
 
 impl<L: Ladder> SetOf<L> {
     // The set of the ladders that are described, numbered in their order.
     pub fn new<D: Describes<L>>(described: &[D]) -> Result<SetOf<L>, LadderFault>
-        ensures { MatchResult result (λ s. (set_fault D.Describes.fault described.now ≡ None) × ((s.count ≡ length described.now) × ((n : ℕ) (v : ℤ) → lawful_at L.Ladder.holds (take s.count s.ladders) n v ≡ lawful_at D.Describes.prices described.now n v))) (λ f. set_fault D.Describes.fault described.now ≡ Some f) }
+        ensures { TakenUnless (set_fault D.Describes.fault described.now) (λ s. (s.count ≡ length described.now) × ((n : ℕ) (v : ℤ) → lawful_at L.Ladder.holds (take s.count s.ladders) n v ≡ lawful_at D.Describes.prices described.now n v)) result }
     {
         let count = checked_count(described.len())?;
         let mut ladders = [described[0].checked()?; 16];
-        for i in 1..described.len() {
-            ladders[i] = described[i].checked()?;
+        // By place, since a zip with `iter_mut` leaves the proof without the array's values.
+        for (i, next) in described.iter().enumerate() {
+            ladders[i] = next.checked()?;
         }
         Ok(SetOf { ladders, count })
     }
+}
 
-    // The least lawful price of a ladder not under v, for v within the price limit.
-    fn up(&self, ladder: u8, v: i64) -> Option<i64>
-        ensures { MatchOption result (within v ≡ false) (λ p. (within v ≡ true) × Above (lawful_at L.Ladder.holds (take self.now.count self.now.ladders) ladder) v p) }
-    {
+impl<L: Ladder> LadderSet for SetOf<L> {
+    ghost size = { λ s. s.count };
+
+    ghost lawful = { λ s. lawful_at L.holds (take s.count s.ladders) };
+
+    ghost counted = { λ s. s.counted };
+
+    ghost lacking = { λ s n v h. lacks L.holds s.ladders s.count n h v };
+
+    ghost dense = { λ s n z. set_is_near L.holds L.dense (take s.count s.ladders) n z };
+
+    fn count(&self) -> u8 {
+        self.count
+    }
+
+    fn above(&self, ladder: u8, v: i64) -> Option<i64> {
         if ladder < self.count {
             return self.ladders[ladder as usize].above(v);
         }
         whole(v)
     }
 
-    // The greatest lawful price of a ladder not over v, for v within the price limit.
-    fn down(&self, ladder: u8, v: i64) -> Option<i64>
-        ensures { MatchOption result (within v ≡ false) (λ p. (within v ≡ true) × Below (lawful_at L.Ladder.holds (take self.now.count self.now.ladders) ladder) v p) }
-    {
+    fn below(&self, ladder: u8, v: i64) -> Option<i64> {
         if ladder < self.count {
             return self.ladders[ladder as usize].below(v);
         }
         whole(v)
-    }
-}
-
-impl LadderSet for SetOf<Tick> {
-    ghost size = { λ s. s.count };
-
-    ghost lawful = { λ s. lawful_at even (take s.count s.ladders) };
-
-    ghost counted = { λ s. s.counted };
-
-    ghost lacking = { λ s n v h. lacks even s.ladders s.count n h v };
-
-    ghost dense = { λ s n z. set_is_near even (λ t. tick_is_near t.points t.lawful.0 t.lawful.1) (take s.count s.ladders) n z };
-
-    fn count(&self) -> u8 {
-        self.count
-    }
-
-    fn above(&self, ladder: u8, v: i64) -> Option<i64> {
-        self.up(ladder, v)
-    }
-
-    fn below(&self, ladder: u8, v: i64) -> Option<i64> {
-        self.down(ladder, v)
-    }
-}
-
-impl LadderSet for SetOf<SteppedLadder> {
-    ghost size = { λ s. s.count };
-
-    ghost lawful = { λ s. lawful_at rungs (take s.count s.ladders) };
-
-    ghost counted = { λ s. s.counted };
-
-    ghost lacking = { λ s n v h. lacks rungs s.ladders s.count n h v };
-
-    ghost dense = { λ s n z. set_is_near rungs (λ t. ladder_is_near t.first (take t.count t.later) t.lawful) (take s.count s.ladders) n z };
-
-    fn count(&self) -> u8 {
-        self.count
-    }
-
-    fn above(&self, ladder: u8, v: i64) -> Option<i64> {
-        self.up(ladder, v)
-    }
-
-    fn below(&self, ladder: u8, v: i64) -> Option<i64> {
-        self.down(ladder, v)
     }
 }

@@ -1,6 +1,7 @@
 // A stepped ladder: one to four bands, each with a tick for its prices.
-ghost use Rattle.std.specs.Prelude.{◌≡◌, ◌≤◌, false, map, length, take, pos, is_some, is_ok, Some, None, Decides, MatchResult, int_lt, nat_le};
+ghost use Rattle.std.specs.Prelude.{◌≡◌, ◌≤◌, false, map, length, take, pos, is_some, is_ok, Some, None, Decides, int_lt, nat_le};
 ghost use Rattle.ladders.specs.Bands.{tick_at, in_bands, band, described, description, rises, band_fault, start_fault, first_fault, later_fault, ladder_fault};
+ghost use Rattle.ladders.specs.Faults.{TakenUnless};
 ghost use Rattle.ladders.specs.Lawful.{LawfulBands};
 ghost use Rattle.ladders.specs.InBand.{ladder_is_near};
 
@@ -10,6 +11,7 @@ use crate::limits::is_within;
 use crate::rungs::Ladder;
 use crate::ticks::Tick;
 
+// An array with a count, since nothing here allocates, and no ArrayVec, which is not Copy.
 #[derive(Clone, Copy)]
 pub struct SteppedLadder {
     first: Tick,
@@ -19,47 +21,46 @@ pub struct SteppedLadder {
     ghost lawful: { is_some (ladder_fault (description first (take count later))) ≡ false },
 }
 
-// Whether a start lies over the start before, if that band has one.
-fn is_over(start: i64, last: Option<i64>) -> bool
-    ensures { result ≡ rises last start }
-{
-    match last {
-        Some(s) => s < start,
-        None => true,
-    }
-}
-
-// The start of a band of the tick `own`, which follows a band that starts at `last` and has the tick `before`.
-fn checked_start(
-    last: Option<i64>,
-    before: Tick,
-    own: Tick,
+// A band that is checked, as the next one looks at it: its start, which the first band lacks, and its tick.
+#[derive(Clone, Copy)]
+struct Before {
     start: Option<i64>,
-) -> Result<i64, LadderFault>
-    ensures { MatchResult result (λ s. (start_fault (band last before) (pos own.points) start ≡ None) × (start ≡ Some s)) (λ f. start_fault (band last before) (pos own.points) start ≡ Some f) }
-{
-    let Some(s) = start else {
-        return Err(LadderFault::StartMisplaced);
-    };
-    if !is_within(s) {
-        return Err(LadderFault::StartOutOfRange);
-    }
-    if !is_over(s, last) {
-        return Err(LadderFault::StartsNotRising);
-    }
-    if !(before.divides(s) & own.divides(s)) {
-        return Err(LadderFault::StartOffTick);
-    }
-    Ok(s)
+    tick: Tick,
 }
 
-// The band `next`, checked, after a band that starts at `last` and has the tick `before`.
-fn checked_step(last: Option<i64>, before: Tick, next: Band) -> Result<Step, LadderFault>
-    ensures { MatchResult result (λ s. (band_fault (band last before) next ≡ None) × (described s ≡ next)) (λ f. band_fault (band last before) next ≡ Some f) }
-{
-    let tick = Tick::new(next.tick)?;
-    let start = checked_start(last, before, tick, next.start)?;
-    Ok(Step { start, tick })
+impl Before {
+    // Whether a start lies over this band's, if it has one.
+    fn starts_under(self, start: i64) -> bool
+        ensures { result ≡ rises self.start start }
+    {
+        self.start.is_none_or(|s| s < start)
+    }
+
+    // The start of the next band, whose tick is `own`.
+    fn checked_start(self, own: Tick, start: Option<i64>) -> Result<i64, LadderFault>
+        ensures { TakenUnless (start_fault (band self.start self.tick) (pos own.points) start) (λ s. start ≡ Some s) result }
+    {
+        let s = start.ok_or(LadderFault::StartMisplaced)?;
+        if !is_within(s) {
+            return Err(LadderFault::StartOutOfRange);
+        }
+        if !self.starts_under(s) {
+            return Err(LadderFault::StartsNotRising);
+        }
+        if !(self.tick.divides(s) && own.divides(s)) {
+            return Err(LadderFault::StartOffTick);
+        }
+        Ok(s)
+    }
+
+    // The next band.
+    fn checked_step(self, next: Band) -> Result<Step, LadderFault>
+        ensures { TakenUnless (band_fault (band self.start self.tick) next) (λ s. described s ≡ next) result }
+    {
+        let tick = Tick::new(next.tick)?;
+        let start = self.checked_start(tick, next.start)?;
+        Ok(Step { start, tick })
+    }
 }
 
 // Whether a ladder may have this many bands after the first.
@@ -71,7 +72,7 @@ fn are_few(later: usize) -> bool
 
 // The tick of the first band, which has no start.
 fn checked_first(head: Band) -> Result<Tick, LadderFault>
-    ensures { MatchResult result (λ t. (first_fault head ≡ None) × (band None t ≡ head)) (λ f. first_fault head ≡ Some f) }
+    ensures { TakenUnless (first_fault head) (λ t. band None t ≡ head) result }
 {
     if head.start.is_some() {
         return Err(LadderFault::StartMisplaced);
@@ -82,19 +83,24 @@ fn checked_first(head: Band) -> Result<Tick, LadderFault>
 // The bands after the first, checked one after the other.
 fn checked_steps(first: Tick, rest: &[Band]) -> Result<[Step; 3], LadderFault>
     requires { length rest.now ≤ 3 }
-    ensures { MatchResult result (λ later. (later_fault (band None first) rest.now ≡ None) × (map described (take (length rest.now) later) ≡ rest.now)) (λ f. later_fault (band None first) rest.now ≡ Some f) }
+    ensures { TakenUnless (later_fault (band None first) rest.now) (λ later. map described (take (length rest.now) later) ≡ rest.now) result }
 {
     let mut later = [Step {
         start: 0,
         tick: first,
     }; 3];
-    let mut last = None;
-    let mut before = first;
+    let mut before = Before {
+        start: None,
+        tick: first,
+    };
+    // By place, since a zip with `iter_mut` leaves the proof without the array's values.
     for (i, next) in rest.iter().enumerate() {
-        let step = checked_step(last, before, *next)?;
+        let step = before.checked_step(*next)?;
         later[i] = step;
-        last = Some(step.start);
-        before = step.tick;
+        before = Before {
+            start: Some(step.start),
+            tick: step.tick,
+        };
     }
     Ok(later)
 }
@@ -106,24 +112,11 @@ fn is_under(v: i64, start: i64) -> bool
     v < start
 }
 
-// The tick of the band that v lies in.
-fn tick_of(first: Tick, later: &[Step], v: i64) -> Tick
-    ensures { pos result.points ≡ tick_at (pos first.points) (map described later.now) v }
-{
-    let mut tick = first;
-    for step in later {
-        if is_under(v, step.start) {
-            return tick;
-        }
-        tick = step.tick;
-    }
-    tick
-}
-
 impl SteppedLadder {
-    // The ladder of these bands, checked in their order.
-    fn of(bands: &[Band]) -> Result<SteppedLadder, LadderFault>
-        ensures { MatchResult result (λ l. (ladder_fault bands.now ≡ None) × (description l.first (take l.count l.later) ≡ bands.now)) (λ f. ladder_fault bands.now ≡ Some f) }
+    // The ladder of these bands: taken exactly if they are lawful, and otherwise refused with the first fault.
+    pub fn new(bands: &[Band]) -> Result<SteppedLadder, LadderFault>
+        ensures taken { Decides (is_ok result) (LawfulBands bands.now) }
+        ensures made { TakenUnless (ladder_fault bands.now) (λ l. description l.first (take l.count l.later) ≡ bands.now) result }
     {
         let [head, rest @ ..] = bands else {
             return Err(LadderFault::NoBand);
@@ -140,19 +133,14 @@ impl SteppedLadder {
         })
     }
 
-    // The ladder of these bands: taken exactly if they are lawful, and otherwise refused with the first fault.
-    pub fn new(bands: &[Band]) -> Result<SteppedLadder, LadderFault>
-        ensures taken { Decides (is_ok result) (LawfulBands bands.now) }
-        ensures made { MatchResult result (λ l. (ladder_fault bands.now ≡ None) × (description l.first (take l.count l.later) ≡ bands.now)) (λ f. ladder_fault bands.now ≡ Some f) }
-    {
-        SteppedLadder::of(bands)
-    }
-
-    // The tick of the band that v lies in.
+    // The tick of the band that v lies in: that of the last band which does not begin over v.
     fn tick_at(&self, v: i64) -> Tick
         ensures { pos result.points ≡ tick_at (pos self.now.first.points) (map described (take self.now.count self.now.later)) v }
     {
-        tick_of(self.first, &self.later[0..self.count], v)
+        self.later[..self.count]
+            .iter()
+            .take_while(|step| !is_under(v, step.start))
+            .fold(self.first, |_, step| step.tick)
     }
 }
 

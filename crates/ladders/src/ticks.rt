@@ -1,7 +1,7 @@
 // A tick, and the even ladder of its multiples.
-ghost use Rattle.std.specs.Prelude.{◌≡◌, ◌≤◌, true, pos, ◌≤ℤ◌, ◌<ℤ◌, Some, None, MatchResult};
+ghost use Rattle.std.specs.Prelude.{◌≡◌, ◌≤◌, true, pos, ◌≤ℤ◌, ◌<ℤ◌};
 ghost use Rattle.std.specs.Int.{int_rem_euclid};
-ghost use Rattle.ladders.specs.Faults.{tick_fault};
+ghost use Rattle.ladders.specs.Faults.{TakenUnless, tick_fault};
 ghost use Rattle.ladders.specs.Multiples.{multiple};
 ghost use Rattle.ladders.specs.Prices.{within};
 ghost use Rattle.ladders.specs.Rounding.{Above, Below};
@@ -11,7 +11,7 @@ use crate::faults::LadderFault;
 use crate::limits::is_within;
 use crate::rungs::Ladder;
 
-const LARGEST: i64 = 1_000_000;
+const LARGEST: u32 = 1_000_000;
 
 #[derive(Clone, Copy)]
 pub struct Tick {
@@ -22,14 +22,12 @@ pub struct Tick {
 impl Tick {
     // A tick of 1 to 1,000,000 points.
     pub fn new(points: i64) -> Result<Tick, LadderFault>
-        ensures { MatchResult result (λ t. (tick_fault points ≡ None) × (pos t.points ≡ points)) (λ f. tick_fault points ≡ Some f) }
+        ensures { TakenUnless (tick_fault points) (λ t. pos t.points ≡ points) result }
     {
-        if points < 1 || LARGEST < points {
-            return Err(LadderFault::TickOutOfRange);
+        match u32::try_from(points) {
+            Ok(points @ 1..=LARGEST) => Ok(Tick { points }),
+            _ => Err(LadderFault::TickOutOfRange),
         }
-        Ok(Tick {
-            points: points as u32,
-        })
     }
 
     // Whether v is a multiple of the tick.
@@ -68,14 +66,10 @@ impl Ladder for Tick {
     ghost dense = { λ t z. tick_is_near t.points t.lawful.0 t.lawful.1 z };
 
     fn above(&self, v: i64) -> Option<i64> {
-        if is_within(v) { Some(self.up(v)) } else { None }
+        is_within(v).then(|| self.up(v))
     }
 
     fn below(&self, v: i64) -> Option<i64> {
-        if is_within(v) {
-            Some(self.down(v))
-        } else {
-            None
-        }
+        is_within(v).then(|| self.down(v))
     }
 }

@@ -4,63 +4,42 @@
 
 use ladders::bands::Band;
 use ladders::faults::LadderFault;
-use ladders::rounding::round;
+use ladders::rounding::{Rounded, round};
 use ladders::sets::{EvenSet, LadderSet, SteppedSet};
 use std::alloc::{AllocError, Global};
 use std::io;
 use std::io::{BufRead, BufReader};
 
-// Why a ladder is refused.
-fn reason(fault: LadderFault) -> &'static str {
-    match fault {
-        LadderFault::NoLadder => "no ladder",
-        LadderFault::TooManyLadders => "more than 16 ladders",
-        LadderFault::NoBand => "no band",
-        LadderFault::TooManyBands => "more than 4 bands",
-        LadderFault::TickOutOfRange => "a tick is not 1 to 1000000",
-        LadderFault::StartMisplaced => "a start without its tick",
-        LadderFault::StartOutOfRange => "a start is beyond the price limit",
-        LadderFault::StartsNotRising => "the starts do not rise",
-        LadderFault::StartOffTick => "a start is no multiple of its own tick and the tick before",
-    }
-}
-
 // The numbers of a ladder's description, in their order; nothing where a word is no number.
 fn numbers(heap: Global, text: &str) -> Result<Option<Vec<i64>>, AllocError> {
-    let mut found = Vec::new(heap);
-    for word in text.split_whitespace() {
-        match word.parse::<i64>() {
-            Ok(n) => found.push(n)?,
-            Err(_) => return Ok(None),
-        }
-    }
-    Ok(Some(found))
+    text.split_whitespace()
+        .map(|word| word.parse().ok())
+        .collect(heap)
 }
 
 // The bands of a description: a tick, then a start and a tick for each later band.
-fn bands(heap: Global, numbers: &[i64]) -> Result<Vec<Band>, AllocError> {
+fn bands(heap: Global, ladder: &[i64]) -> Result<Vec<Band>, AllocError> {
     let mut found = Vec::new(heap);
-    let mut start = None;
-    for (i, n) in numbers.iter().enumerate() {
-        if i % 2 == 1 {
-            start = Some(*n);
-        } else {
-            found.push(Band { start, tick: *n })?;
-        }
+    let [first, later @ ..] = ladder else {
+        return Ok(found);
+    };
+    found.push(Band {
+        start: None,
+        tick: *first,
+    })?;
+    for [start, tick] in later.as_chunks::<2>().0 {
+        found.push(Band {
+            start: Some(*start),
+            tick: *tick,
+        })?;
     }
     Ok(found)
 }
 
 // A number or a fraction, as numerator and denominator.
 fn fraction(word: &str) -> Option<(i64, u32)> {
-    let (n, d) = match word.split_once('/') {
-        Some((n, d)) => (n.parse::<i64>(), d.parse::<u32>()),
-        None => (word.parse::<i64>(), Ok(1)),
-    };
-    match (n, d) {
-        (Ok(n), Ok(d)) => Some((n, d)),
-        _ => None,
-    }
+    let (n, d) = word.split_once('/').unwrap_or((word, "1"));
+    Some((n.parse().ok()?, d.parse().ok()?))
 }
 
 fn answer_value<S: LadderSet>(rt: &HostRuntime, set: &S, word: &str) -> io::Result<()> {
@@ -71,27 +50,35 @@ fn answer_value<S: LadderSet>(rt: &HostRuntime, set: &S, word: &str) -> io::Resu
         return println!(rt; "{word}: a denominator of zero");
     }
     match round(set, 0, f) {
-        Some(r) => {
-            let below = r.below;
-            let nearest = r.nearest;
-            let above = r.above;
-            println!(rt; "{word}: below {below} nearest {nearest} above {above}")
-        }
+        Some(
+            Rounded {
+                below,
+                nearest,
+                above,
+            },
+        ) => println!(rt; "{word}: below {below} nearest {nearest} above {above}"),
         None => println!(rt; "{word}: beyond the price limit"),
     }
 }
 
-fn answer_values<S: LadderSet>(rt: &HostRuntime, set: &S, values: &str) -> io::Result<()> {
-    for word in values.split_whitespace() {
-        answer_value(rt, set, word)?;
-    }
-    Ok(())
-}
-
 fn refuse(rt: &HostRuntime, fault: LadderFault) -> io::Result<()> {
     let number = fault.number();
-    let why = reason(fault);
-    println!(rt; "refused {number}: {why}")
+    println!(rt; "refused {number}: {fault}")
+}
+
+fn answer_values<S: LadderSet + Drop>(
+    rt: &HostRuntime,
+    set: Result<S, LadderFault>,
+    values: &str,
+) -> io::Result<()> {
+    let set = match set {
+        Ok(set) => set,
+        Err(fault) => return refuse(rt, fault),
+    };
+    for word in values.split_whitespace() {
+        answer_value(rt, &set, word)?;
+    }
+    Ok(())
 }
 
 // One tick is an even ladder; anything else is described by its bands. After the first tick, starts and ticks come in pairs.
@@ -100,16 +87,10 @@ fn answer_ladder(rt: &HostRuntime, ladder: &[i64], values: &str) -> io::Result<(
         return refuse(rt, LadderFault::StartMisplaced);
     }
     if ladder.len() == 1 {
-        return match EvenSet::new(ladder) {
-            Ok(set) => answer_values(rt, &set, values),
-            Err(fault) => refuse(rt, fault),
-        };
+        return answer_values(rt, EvenSet::new(ladder), values);
     }
     let described = bands(rt.alloc(), ladder)?;
-    match SteppedSet::new(&[described.as_slice()]) {
-        Ok(set) => answer_values(rt, &set, values),
-        Err(fault) => refuse(rt, fault),
-    }
+    answer_values(rt, SteppedSet::new(&[described.as_slice()]), values)
 }
 
 fn answer_line(rt: &HostRuntime, line: &str) -> io::Result<()> {
@@ -124,13 +105,8 @@ fn answer_line(rt: &HostRuntime, line: &str) -> io::Result<()> {
 
 fn main(rt: HostRuntime) -> io::Result<()> {
     let heap = rt.alloc();
-    let mut input = BufReader::new(heap, rt.stdin())?;
-    let mut line = Vec::new(heap);
-    for _ in 0..u64::MAX {
-        line.clear();
-        if input.read_until(b'\n', &mut line)? == 0 {
-            break;
-        }
+    for line in BufReader::new(heap, rt.stdin())?.split(heap, b'\n') {
+        let line = line?;
         let text = String::from_utf8_lossy(heap, line.as_slice())?;
         answer_line(&rt, text.as_str())?;
     }

@@ -5,17 +5,10 @@ use Rattle.ladders.specs.Fractions.{inside}
 use Rattle.ladders.specs.Prices.{within}
 use Rattle.ladders.specs.Rounding.{Above, Below}
 use Rattle.ladders.specs.Values.{closer_of}
-use Rattle.ladders.proofs.Nearest.{floor_within, ceiling_within, rounds_from, rounds_value, rounds_close}
+use Rattle.ladders.proofs.Nearest.{ceiling_within, rounds_from, rounds_value, rounds_close}
 use Rattle.ladders.proofs.rounding.round.Goals as goal
 
 -- of a fraction inside the limit, the set always answers
-pub returns-in_err-below : goal.returns-in_err-below
-returns-in_err-below g c =
-    let ok : inside c.args.fraction.0 c.args.fraction.1 ≡ true = search rules in
-    let fits : SFits w64 c.around-floor.result.0 = search rules in
-    let same = to_z-of_z w64 c.around-floor.result.0 fits ∙ c.around-floor.ensures.0 in
-    absurd (true≢false (sym (floor_within c.args.fraction.0 c.args.fraction.1 ok) ∙ ap within (sym same) ∙ c.in_err-below.ensures))
-
 pub returns-in_err-above : goal.returns-in_err-above
 returns-in_err-above g c =
     let ok : inside c.args.fraction.0 c.args.fraction.1 ≡ true = search rules in

@@ -7,4 +7,4 @@ abbrev pub invariant-loop-i : goal.invariant-loop-i
 invariant-loop-i l =
     (length l.later ≡ 3)
     × (map described (take l.i l.later) ≡ take l.i l.rest)
-    × (later_fault (band l.initial.last l.initial.before) l.rest ≡ later_fault (band l.last l.before) (drop l.i l.rest))
+    × (later_fault (band l.initial.before.start l.initial.before.tick) l.rest ≡ later_fault (band l.before.start l.before.tick) (drop l.i l.rest))

@@ -1,16 +1,16 @@
-use Rattle.std.proofs.Common.{◌≡◌, ◌≤◌, Bool, true, false, length, ℤ, subst, arith, w64, rules, MatchOption}
+use Rattle.std.proofs.Common.{◌≡◌, ◌≤◌, Bool, length, ℤ, subst, arith, w64, rules}
 use Rattle.std.proofs.lemmas.Int.{to_z-of_z}
 use Rattle.ladders.specs.Prices.{within}
-use Rattle.ladders.specs.Rounding.{Below}
+use Rattle.ladders.specs.Rounding.{AnswersWhere, Below}
 use Rattle.ladders.specs.InSet.{in_set, lacks, below_itself}
-use Rattle.ladders.proofs.sets.SetOf.down.Goals as goal
+use Rattle.ladders.proofs.sets.SetOfLadderSet.below.Goals as goal
 
 pub returns-then-ladder-self : goal.returns-then-ladder-self
 returns-then-ladder-self g c =
     let s = c.args.self.now in
     let long : length s.ladders ≡ 16 = search rules in
     let few : s.count ≤ length s.ladders = omega arith in
-    subst (λ (P : ℤ → Bool). MatchOption c.below.result (within c.args.v ≡ false) (λ p. (within c.args.v ≡ true) × Below P c.args.v p))
+    subst (λ (P : ℤ → Bool). AnswersWhere (within c.args.v) (Below P c.args.v) c.below.result)
     (in_set g.L.Ladder.holds s.ladders s.count c.args.ladder c.index-self-ladder.result c.if-ladder-self.true few)
     (simp (to_z-of_z w64 c.args.v c.ranges.v) at c.below.ensures)
 
