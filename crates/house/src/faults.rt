@@ -27,6 +27,7 @@ pub enum HouseFault {
 }
 
 impl HouseFault {
+    // A method, since a From to u8 would not say what the number is.
     pub fn number(self) -> u8
         ensures { result ≡ house_number self }
     {

@@ -21,7 +21,7 @@ pub enum LadderFault {
 }
 
 impl LadderFault {
-    // The number that a refusal is known by.
+    // The number that a refusal is known by. A method, since a From to u8 would not say what the number is.
     pub fn number(self) -> u8
         ensures { result ≡ number self }
     {

@@ -20,7 +20,7 @@ pub enum Step {
 }
 
 impl Step {
-    // The letter that is printed beside a price.
+    // The letter that is printed beside a price, as the byte that a line has.
     pub fn letter(self) -> u8
         ensures { result ≡ letter self }
     {

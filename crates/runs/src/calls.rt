@@ -14,6 +14,7 @@ pub enum Call {
         series: i64,
         value: Option<i64>,
     },
+    // A value and a mark beside it, since a cleared ruling with a mark is a call too, and refused.
     SetRuling {
         series: i64,
         value: Option<i64>,

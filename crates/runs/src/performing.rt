@@ -10,7 +10,7 @@ use house::faults::HouseFault;
 use house::houses::House;
 use ladders::sets::LadderSet;
 
-// Makes one call.
+// Makes one call. House and book are two parameters, as for the house's own calls: the book is lent to each.
 pub fn perform<L: LadderSet, B: Book>(
     house: &mut House<L>,
     book: &mut B,
