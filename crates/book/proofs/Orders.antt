@@ -9,8 +9,5 @@ le_from a b e = grind (arith, ints)
 pub le_test : (a b : ℤ) → a ≤ℤ b → le_z a b ≡ true
 le_test a b h = grind (arith, ints)
 
-pub lt_from : (a b : ℤ) → lt_z a b ≡ true → a <ℤ b
-lt_from a b e = grind (arith, ints)
-
 pub over_from : (a b : ℤ) → le_z a b ≡ false → b <ℤ a
 over_from a b e = grind (arith, ints)
