@@ -6,7 +6,7 @@ use Rattle.std.proofs.lemmas.Bool.{and_parts, and_from}
 use Rattle.book.specs.Bounds.{bounded}
 use Rattle.book.specs.Days.{is_lawful}
 use Rattle.book.specs.Entries.{allowed, kind_lawful}
-use Rattle.book.specs.Figures.{empty, entered_in, sound, stamp_small, values}
+use Rattle.book.specs.Figures.{empty, entered_if, entered_in, sound, stamp_small, values}
 use Rattle.book.specs.Ledgers.{Lawful, entered, grown, in_range}
 use Rattle.book.specs.Records.{every, figures_of, recorded}
 use Rattle.book.specs.Windows.{edges}
@@ -14,7 +14,7 @@ use Rattle.book.specs.declared.days.Day.{Day}
 use Rattle.book.specs.declared.entries.Entry.{Entry}
 use Rattle.book.specs.declared.entries.Kind.TheVariants.{Trade}
 use Rattle.book.specs.declared.marks.Figures.{Figures}
-use Rattle.book.proofs.Growth.{bounded_entered, bounded_empty}
+use Rattle.book.proofs.Growth.{bounded_entered, bounded_empty, enters, small_from}
 use Rattle.book.proofs.Ranges.{allowed_kind, allowed_stamp, outside_stays}
 
 -- what a place past the end of a list of entries reads as
@@ -68,6 +68,17 @@ pub bounded_fold : (s : ℕ) (x : ℤ × ℤ) (es : List Entry) → every sound 
 bounded_fold s x es h =
     let count : 0 + length es ≡ length es = omega arith in
     subst (λ (k : ℕ). bounded k (values (fold (entered_in s x) empty es)) ≡ true) count (bounded_from 0 s x empty es h (bounded_empty 0))
+
+-- few enough sound entries all enter: the sums never lack room
+same_from : (n s : ℕ) (x : ℤ × ℤ) (f : Figures) (es : List Entry) → n + length es ≤ 30000 → every sound es ≡ true → bounded n (values f) ≡ true → fold (entered_if s x) f es ≡ fold (entered_in s x) f es
+same_from n s x f [] few h b = refl
+same_from n s x f (e ∷ es) few h b =
+    let both = and_parts (sound e) (every sound es) h in
+    ap (λ g. fold (entered_if s x) g es) (enters s x f e both.0 (small_from n f b (omega arith)))
+    ∙ same_from (n + 1) s x (entered_in s x f e) es (omega arith) both.1 (bounded_entered n s x f e (sound_parts e both.0).1 b)
+
+pub same_fold : (s : ℕ) (x : ℤ × ℤ) (es : List Entry) → length es ≤ 30000 → every sound es ≡ true → fold (entered_if s x) empty es ≡ fold (entered_in s x) empty es
+same_fold s x es few h = same_from 0 s x empty es (omega arith) h (bounded_empty 0)
 
 outside_from : (d : Day) (s w : ℕ) (f : Figures) (es : List Entry) → every (allowed d) es ≡ true → in_range s w ≡ false → fold (entered d s w) f es ≡ f
 outside_from d s w f [] h r = refl
