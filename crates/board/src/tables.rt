@@ -25,11 +25,8 @@ pub(crate) struct Table {
 fn place(series: u8, window: u8) -> Option<usize>
     ensures { result ≡ (if in_range series window then Some (place series window) else None) }
 {
-    if series < SERIES && (1..=WINDOWS).contains(&window) {
-        Some(usize::from(series) * usize::from(WINDOWS) + (usize::from(window) - 1))
-    } else {
-        None
-    }
+    let inside = series < SERIES && (1..=WINDOWS).contains(&window);
+    inside.then(|| usize::from(series) * usize::from(WINDOWS) + (usize::from(window) - 1))
 }
 
 impl Table {
@@ -45,10 +42,7 @@ impl Table {
     pub(crate) fn at(&self, series: u8, window: u8) -> Figures
         ensures { result ≡ cell self.now.cells series window }
     {
-        match place(series, window) {
-            Some(i) => self.cells[i],
-            None => Figures::empty(),
-        }
+        place(series, window).map_or_else(Figures::empty, |i| self.cells[i])
     }
 
     // An entry enters one record, in place; every other stays.
