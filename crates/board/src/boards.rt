@@ -50,7 +50,12 @@ impl Book for Board {
 
     fn take(&mut self, entry: Entry) -> Result<(), BookFault> {
         let day = self.day();
-        admit(&day, usize::from(self.count), usize::from(self.capacity), &entry)?;
+        admit(
+            &day,
+            usize::from(self.count),
+            usize::from(self.capacity),
+            &entry,
+        )?;
         self.table.enter_all(&day, &entry);
         self.count += 1;
         Ok(())

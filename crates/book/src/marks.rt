@@ -38,7 +38,7 @@ pub struct Figures {
 }
 
 // The figures as they are read: without the stamps.
-#[derive(Clone, Copy, PartialEq, Eq, Debug)]
+#[derive(Clone, Copy, Default, PartialEq, Eq, Debug)]
 pub struct Values {
     pub trade: Option<i32>,
     pub auction: Option<i32>,
