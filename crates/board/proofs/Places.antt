@@ -1,10 +1,9 @@
 -- What the table holds inside series 0 to 31 and windows 1 to 13, and outside.
-use Rattle.std.proofs.Common.{◌≡◌, ℕ, ◌<◌, ◌≤◌, true, false, cond, ◌&&◌, eqb, leb, ◌≢◌, List, length, get_or, set, replicate, ℤ, sym, refl, ap, ◌∙◌, ⊎_elim, arith}
-use Rattle.std.proofs.lemmas.List.{get_or-set_same, get_or-set_other, get_or-replicate}
-use Rattle.std.proofs.lemmas.Bool.{and_parts, and_from, and_left, and_right, cases_Bool, cases_eq, cond-true, cond-false, cond_both, eq-eqb, eqb-true, ne_eqb, leb-true}
-use Rattle.book.specs.Figures.{empty, entered_in}
+use Rattle.std.proofs.Common.{◌≡◌, ℕ, ◌<◌, ◌≤◌, true, false, ◌&&◌, leb, List, get_or, replicate, refl, arith}
+use Rattle.std.proofs.lemmas.List.{get_or-replicate}
+use Rattle.std.proofs.lemmas.Bool.{and_parts, cond-false, cond_both, leb-true}
+use Rattle.book.specs.Figures.{empty}
 use Rattle.book.specs.Ledgers.{in_range}
-use Rattle.book.specs.declared.entries.Entry.{Entry}
 use Rattle.book.specs.declared.marks.Figures.{Figures}
 use Rattle.board.specs.Cells.{cell, place}
 

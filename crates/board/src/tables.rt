@@ -16,6 +16,7 @@ const WINDOWS: u8 = 13;
 
 const CELLS: usize = SERIES as usize * WINDOWS as usize;
 
+// Flat and of a fixed size, with one record changed in place: nothing here allocates.
 #[derive(Drop)]
 pub(crate) struct Table {
     cells: [Figures; CELLS],

@@ -1,5 +1,5 @@
 -- What holds of figures after any allowed entries.
-use Rattle.std.proofs.Common.{◌≡◌, ℕ, zero, suc, ◌+◌, ◌<◌, ◌≤◌, Bool, true, false, List, [], ◌∷◌, ◌++◌, length, get_or, take, ℤ, pos, fold, sym, refl, ap, ◌∙◌, subst, add-zero, arith}
+use Rattle.std.proofs.Common.{◌≡◌, ℕ, ◌+◌, ◌≤◌, Bool, true, false, List, [], ◌∷◌, ◌++◌, length, ℤ, fold, sym, refl, ap, ◌∙◌, subst, add-zero, arith}
 use Rattle.std.proofs.lemmas.List.{length_push}
 use Rattle.std.proofs.lemmas.List.Sums.{fold_push}
 use Rattle.std.proofs.lemmas.Bool.{and_parts, and_from}
@@ -12,34 +12,17 @@ use Rattle.book.specs.Records.{every, figures_of, recorded}
 use Rattle.book.specs.Windows.{edges}
 use Rattle.book.specs.declared.days.Day.{Day}
 use Rattle.book.specs.declared.entries.Entry.{Entry}
-use Rattle.book.specs.declared.entries.Kind.TheVariants.{Trade}
 use Rattle.book.specs.declared.marks.Figures.{Figures}
 use Rattle.book.proofs.Growth.{bounded_entered, bounded_empty, enters, small_from}
 use Rattle.book.proofs.Ranges.{allowed_kind, allowed_stamp, outside_stays}
 
--- what a place past the end of a list of entries reads as
-abbrev pub blank : Entry
-blank = record { series = pos 0; stamp = pos 0; kind = Trade (pos 0) (pos 0) }
-
 -- ---- tests of every element
-
-pub every_get_d : {X : Type 0} (p : X → Bool) (xs : List X) (i : ℕ) (d : X) → i < length xs → every p xs ≡ true → p (get_or xs i d) ≡ true
-every_get_d p [] i d h e = absurd (omega arith)
-every_get_d p (x ∷ xs) zero d h e = (and_parts (p x) (every p xs) e).0
-every_get_d p (x ∷ xs) (suc i) d h e = every_get_d p xs i d (omega arith) (and_parts (p x) (every p xs) e).1
 
 pub every_push : {X : Type 0} (p : X → Bool) (xs : List X) (x : X) → every p xs ≡ true → p x ≡ true → every p (xs ++ (x ∷ [])) ≡ true
 every_push p [] x e h = and_from (p x) true h refl
 every_push p (y ∷ ys) x e h =
     let both = and_parts (p y) (every p ys) e in
     and_from (p y) (every p (ys ++ (x ∷ []))) both.0 (every_push p ys x both.1 h)
-
-pub every_take : {X : Type 0} (p : X → Bool) (n : ℕ) (xs : List X) → every p xs ≡ true → every p (take n xs) ≡ true
-every_take p zero xs e = refl
-every_take p (suc n) [] e = refl
-every_take p (suc n) (x ∷ xs) e =
-    let both = and_parts (p x) (every p xs) e in
-    and_from (p x) (every p (take n xs)) both.0 (every_take p n xs both.1)
 
 -- ---- folds over allowed entries
 

@@ -1,5 +1,5 @@
 -- What the limits on prices and lots give for their products.
-use Rattle.std.proofs.Common.{◌≡◌, ℕ, ◌*◌, ◌≤◌, true, ℤ, pos, negsuc, ◌*ℤ◌, nat_abs, sym, refl, mul-le-mul_right, mul_comm, arith, w64, SFits}
+use Rattle.std.proofs.Common.{◌≡◌, ℕ, ◌*◌, ◌≤◌, true, ℤ, pos, negsuc, ◌*ℤ◌, nat_abs, sym, refl, mul-le-mul_right, mul_comm, arith}
 use Rattle.std.proofs.lemmas.Int.{ints}
 use Rattle.std.proofs.lemmas.Bool.{true≢false}
 use Rattle.book.specs.Entries.{price_lawful, lots_lawful}

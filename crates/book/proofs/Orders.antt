@@ -1,6 +1,6 @@
 -- Tests of whole numbers, and the orders that they decide.
 use Rattle.std.proofs.Common.{◌≡◌, true, false, ℤ, ◌≤ℤ◌, ◌<ℤ◌, arith}
-use lib.Signed.{le_z, lt_z}
+use lib.Signed.{le_z}
 use Rattle.std.proofs.lemmas.Int.{ints}
 
 pub le_from : (a b : ℤ) → le_z a b ≡ true → a ≤ℤ b

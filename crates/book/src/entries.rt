@@ -84,6 +84,7 @@ pub(crate) fn is_kind_lawful(kind: Kind) -> bool
 pub fn is_allowed(day: &Day, entry: &Entry) -> bool
     ensures { result ≡ allowed day.now entry.now }
 {
+    // Joined by `&`: with `&&` in three parts the goal stays open.
     let series = (0..=LAST_SERIES).contains(&entry.series);
     let stamp = (day.night..=day.close).contains(&entry.stamp);
     series & stamp & is_kind_lawful(entry.kind)

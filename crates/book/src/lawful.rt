@@ -31,7 +31,7 @@ fn is_lawful(day: &Day) -> bool
 }
 
 impl LawfulDay {
-    // The day record, if it is lawful.
+    // The day record, if it is lawful. `TryFrom` would read no plainer: `LawfulDay::new` says what is made.
     pub fn new(day: Day) -> Result<LawfulDay, DayFault>
         ensures { MatchResult result (λ l. (is_lawful day ≡ true) × (l.day ≡ day)) (λ f. (is_lawful day ≡ false) × (f ≡ NotLawful)) }
     {

@@ -37,7 +37,8 @@ pub struct Figures {
     pub money: i64,
 }
 
-// The figures as they are read: without the stamps.
+// The figures as they are read: without the stamps. One struct over the type of a last figure would be no plainer: the
+// quote would need a parameter of its own, and specs and other crates name both.
 #[derive(Clone, Copy, Default, PartialEq, Eq, Debug)]
 pub struct Values {
     pub trade: Option<i32>,

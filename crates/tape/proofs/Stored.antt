@@ -1,17 +1,13 @@
 -- What a tape knows of the entries that it stores: the first n of its places.
-use Rattle.std.proofs.Common.{◌≡◌, ℕ, ◌+◌, ◌<◌, ◌≤◌, min, true, List, length, get_or, take, set, ℤ, Ok, fold, sym, ap, ◌∙◌, subst, arith}
+use Rattle.std.proofs.Common.{◌≡◌, ℕ, ◌+◌, ◌<◌, ◌≤◌, min, true, List, length, take, set, Ok, sym, ap, ◌∙◌, arith}
 use Rattle.std.proofs.lemmas.List.{length-take-le, take_more_set, length-set}
-use Rattle.std.proofs.lemmas.List.Sums.{fold_more}
 use Rattle.book.specs.Days.{is_lawful}
-use Rattle.book.specs.Entries.{allowed, kind_lawful}
-use Rattle.book.specs.Figures.{Small, empty, entered_in, sound, stamp_small}
-use Rattle.book.specs.Ledgers.{Lawful, after, answer, grown, reply}
+use Rattle.book.specs.Entries.{allowed}
+use Rattle.book.specs.Ledgers.{Lawful, after, grown, reply}
 use Rattle.book.specs.Records.{every, recorded}
 use Rattle.book.specs.declared.days.Day.{Day}
 use Rattle.book.specs.declared.entries.Entry.{Entry}
-use Rattle.book.specs.declared.marks.Figures.{Figures}
-use Rattle.book.proofs.Folds.{blank, bounded_fold, every_get_d, every_push, every_take, lawful_record, recorded_push, sound_parts}
-use Rattle.book.proofs.Growth.{small_from}
+use Rattle.book.proofs.Folds.{every_push, lawful_record, recorded_push}
 use Rattle.book.proofs.Taking.{admitted, same_reply}
 
 pub few_stored : (slots : List Entry) (n : ℕ) → n ≤ length slots → n ≤ 30000 → length (take n slots) ≤ 30000

@@ -9,6 +9,7 @@ use book::marks::Figures;
 pub(crate) fn scan(entries: &[Entry], series: u8, edges: (i64, i64)) -> Figures
     ensures { result ≡ fold (entered_if series edges) empty entries.now }
 {
+    // A loop, since `enter_in` changes the figures in place.
     let mut figures = Figures::empty();
     for e in entries {
         figures.enter_in(e, series, edges);

@@ -1,4 +1,4 @@
-use Rattle.std.proofs.Common.{◌≡◌, ◌&&◌, eqb, pos, nat_abs, w64, SFits, to_z, of_z, rules, arith}
+use Rattle.std.proofs.Common.{◌≡◌, eqb, pos, nat_abs, w64, SFits, to_z, of_z, rules, arith}
 use Rattle.std.proofs.lemmas.Int.{to_z-of_z}
 use Rattle.std.specs.Int.{FitsUnsignedBits}
 use Rattle.book.specs.Figures.{entered_if}
