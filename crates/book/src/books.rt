@@ -41,6 +41,7 @@ pub trait Book {
         ensures bounds { bounded (meaning self.now).count result ≡ true }
         ensures few { (meaning self.now).count ≤ 30000 };
 
+    // What holds of every book is a clause here, where a caller meets it: a law beside it would say the same twice.
     fn day(&self) -> Day
         ensures value { result ≡ (meaning self.now).day }
         ensures lawful { Lawful (meaning self.now) };
