@@ -1,42 +1,37 @@
 // The board.
 ghost use Rattle.std.specs.Prelude.{◌≡◌, ℕ, ◌≤◌, min, true};
 ghost use Rattle.book.specs.Bounds.{bounded};
-ghost use Rattle.book.specs.Days.{is_lawful};
 ghost use Rattle.book.specs.Figures.{values};
 ghost use Rattle.book.specs.Ledgers.{fresh};
 ghost use Rattle.board.specs.Cells.{cell, tabled};
 
 use crate::tables::Table;
-use book::books::{Book, admit};
+use book::books::{Book, MOST, admit};
 use book::days::Day;
 use book::entries::Entry;
 use book::faults::BookFault;
 use book::lawful::LawfulDay;
 use book::marks::Values;
 
-// No book takes more entries, whatever capacity was stated.
-const MOST: usize = 30_000;
-
 #[derive(Drop)]
 pub struct Board {
     table: Table,
-    day: Day,
+    day: LawfulDay,
     capacity: u16,
     count: u16,
-    ghost lawful: { is_lawful day ≡ true },
     ghost most: { capacity ≤ 30000 },
     ghost room: { count ≤ capacity },
-    ghost bounds: { (p : ℕ × ℕ) → bounded count (values (cell table.cells p.0 p.1)) ≡ true },
+    ghost bounds: { (s w : ℕ) → bounded count (values (cell table.cells s w)) ≡ true },
 }
 
 impl Board {
     // An empty board for the day, of the capacity stated, cut to 30,000.
     pub fn new(day: LawfulDay, capacity: usize) -> Board
-        ensures { tabled result.day result.capacity result.count result.table.cells ≡ fresh day.day (min capacity 30000) }
+        ensures { tabled result.day.day result.capacity result.count result.table.cells ≡ fresh day.day (min capacity 30000) }
     {
         Board {
             table: Table::empty(),
-            day: day.day(),
+            day,
             capacity: capacity.min(MOST) as u16,
             count: 0,
         }
@@ -51,16 +46,17 @@ impl Board {
 }
 
 impl Book for Board {
-    ghost meaning = { λ b. tabled b.day b.capacity b.count b.table.cells };
+    ghost meaning = { λ b. tabled b.day.day b.capacity b.count b.table.cells };
 
     fn take(&mut self, entry: Entry) -> Result<(), BookFault> {
+        let day = self.day();
         admit(
-            &self.day,
+            &day,
             usize::from(self.count),
             usize::from(self.capacity),
             &entry,
         )?;
-        self.table.enter_all(&self.day, &entry);
+        self.table.enter_all(&day, &entry);
         self.count += 1;
         Ok(())
     }
@@ -70,7 +66,7 @@ impl Book for Board {
     }
 
     fn day(&self) -> Day {
-        self.day
+        self.day.day()
     }
 
     fn capacity(&self) -> u16 {

@@ -1,45 +1,28 @@
 -- What holds of figures after any allowed entries.
-use Rattle.std.proofs.Common.{◌≡◌, ℕ, zero, suc, ◌+◌, ◌<◌, ◌≤◌, Bool, true, false, List, [], ◌∷◌, ◌++◌, length, get_or, take, ℤ, pos, fold, sym, refl, ap, ◌∙◌, subst, add-zero, arith}
+use Rattle.std.proofs.Common.{◌≡◌, ℕ, ◌+◌, ◌≤◌, Bool, true, false, List, [], ◌∷◌, ◌++◌, length, ℤ, fold, sym, refl, ap, ◌∙◌, subst, add-zero, arith}
 use Rattle.std.proofs.lemmas.List.{length_push}
 use Rattle.std.proofs.lemmas.List.Sums.{fold_push}
 use Rattle.std.proofs.lemmas.Bool.{and_parts, and_from}
 use Rattle.book.specs.Bounds.{bounded}
 use Rattle.book.specs.Days.{is_lawful}
 use Rattle.book.specs.Entries.{allowed, kind_lawful}
-use Rattle.book.specs.Figures.{empty, entered_in, sound, stamp_small, values}
+use Rattle.book.specs.Figures.{empty, entered_if, entered_in, sound, stamp_small, values}
 use Rattle.book.specs.Ledgers.{Lawful, entered, grown, in_range}
 use Rattle.book.specs.Records.{every, figures_of, recorded}
 use Rattle.book.specs.Windows.{edges}
 use Rattle.book.specs.declared.days.Day.{Day}
 use Rattle.book.specs.declared.entries.Entry.{Entry}
-use Rattle.book.specs.declared.entries.Kind.TheVariants.{Trade}
 use Rattle.book.specs.declared.marks.Figures.{Figures}
-use Rattle.book.proofs.Growth.{bounded_entered, bounded_empty}
+use Rattle.book.proofs.Growth.{bounded_entered, bounded_empty, enters, small_from}
 use Rattle.book.proofs.Ranges.{allowed_kind, allowed_stamp, outside_stays}
 
--- what a place past the end of a list of entries reads as
-abbrev pub blank : Entry
-blank = record { series = pos 0; stamp = pos 0; kind = Trade (pos 0) (pos 0) }
-
 -- ---- tests of every element
-
-pub every_get_d : {X : Type 0} (p : X → Bool) (xs : List X) (i : ℕ) (d : X) → i < length xs → every p xs ≡ true → p (get_or xs i d) ≡ true
-every_get_d p [] i d h e = absurd (omega arith)
-every_get_d p (x ∷ xs) zero d h e = (and_parts (p x) (every p xs) e).0
-every_get_d p (x ∷ xs) (suc i) d h e = every_get_d p xs i d (omega arith) (and_parts (p x) (every p xs) e).1
 
 pub every_push : {X : Type 0} (p : X → Bool) (xs : List X) (x : X) → every p xs ≡ true → p x ≡ true → every p (xs ++ (x ∷ [])) ≡ true
 every_push p [] x e h = and_from (p x) true h refl
 every_push p (y ∷ ys) x e h =
     let both = and_parts (p y) (every p ys) e in
     and_from (p y) (every p (ys ++ (x ∷ []))) both.0 (every_push p ys x both.1 h)
-
-pub every_take : {X : Type 0} (p : X → Bool) (n : ℕ) (xs : List X) → every p xs ≡ true → every p (take n xs) ≡ true
-every_take p zero xs e = refl
-every_take p (suc n) [] e = refl
-every_take p (suc n) (x ∷ xs) e =
-    let both = and_parts (p x) (every p xs) e in
-    and_from (p x) (every p (take n xs)) both.0 (every_take p n xs both.1)
 
 -- ---- folds over allowed entries
 
@@ -68,6 +51,17 @@ pub bounded_fold : (s : ℕ) (x : ℤ × ℤ) (es : List Entry) → every sound 
 bounded_fold s x es h =
     let count : 0 + length es ≡ length es = omega arith in
     subst (λ (k : ℕ). bounded k (values (fold (entered_in s x) empty es)) ≡ true) count (bounded_from 0 s x empty es h (bounded_empty 0))
+
+-- few enough sound entries all enter: the sums never lack room
+same_from : (n s : ℕ) (x : ℤ × ℤ) (f : Figures) (es : List Entry) → n + length es ≤ 30000 → every sound es ≡ true → bounded n (values f) ≡ true → fold (entered_if s x) f es ≡ fold (entered_in s x) f es
+same_from n s x f [] few h b = refl
+same_from n s x f (e ∷ es) few h b =
+    let both = and_parts (sound e) (every sound es) h in
+    ap (λ g. fold (entered_if s x) g es) (enters s x f e both.0 (small_from n f b (omega arith)))
+    ∙ same_from (n + 1) s x (entered_in s x f e) es (omega arith) both.1 (bounded_entered n s x f e (sound_parts e both.0).1 b)
+
+pub same_fold : (s : ℕ) (x : ℤ × ℤ) (es : List Entry) → length es ≤ 30000 → every sound es ≡ true → fold (entered_if s x) empty es ≡ fold (entered_in s x) empty es
+same_fold s x es few h = same_from 0 s x empty es (omega arith) h (bounded_empty 0)
 
 outside_from : (d : Day) (s w : ℕ) (f : Figures) (es : List Entry) → every (allowed d) es ≡ true → in_range s w ≡ false → fold (entered d s w) f es ≡ f
 outside_from d s w f [] h r = refl

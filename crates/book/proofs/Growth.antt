@@ -1,11 +1,12 @@
 -- Figures stay within their bounds as entries enter them: what both makes of book need.
-use Rattle.std.proofs.Common.{◌≡◌, ℕ, ◌+◌, ◌*◌, ◌≤◌, Bool, true, false, cond, ◌&&◌, leb, ℤ, pos, ◌+ℤ◌, ◌*ℤ◌, nat_abs, ◌≤ℤ◌, Some, None, Option, refl, ap, ◌∙◌, arith}
+use Rattle.std.proofs.Common.{◌≡◌, ℕ, ◌+◌, ◌*◌, ◌≤◌, Bool, true, cond, ◌&&◌, leb, ℤ, pos, ◌+ℤ◌, ◌*ℤ◌, nat_abs, ◌≤ℤ◌, Some, None, Option, refl, ap, ◌∙◌, arith}
 use lib.Signed.{le_z}
+use Rattle.std.proofs.Math.Bool.{and-true}
 use Rattle.std.proofs.lemmas.Int.{ints}
 use Rattle.std.proofs.lemmas.Bool.{and_parts, and_from, cond_both, leb-true, le-leb}
 use Rattle.book.specs.Bounds.{bounded, sums_within, spread_if, sides_if}
 use Rattle.book.specs.Entries.{kind_lawful, lots_lawful, price_lawful, side_lawful, uncrossed}
-use Rattle.book.specs.Figures.{Small, concerns, empty, entered_in, latest, marked, roomy, settled, sound, stamp_small, traded, values, with_auction}
+use Rattle.book.specs.Figures.{Small, concerns, empty, entered_if, entered_in, latest, marked, roomy, settled, sound, traded, values, with_auction}
 use Rattle.book.specs.declared.entries.Entry.{Entry}
 use Rattle.book.specs.declared.entries.Kind.{Kind}
 use Rattle.book.specs.declared.entries.Kind.TheVariants.{Trade, Auction, Leg, Spread, Quote}
@@ -75,10 +76,7 @@ abs_sum_up : (a b : ℤ) → pos 0 ≤ℤ a → pos 0 ≤ℤ b → nat_abs (a +�
 abs_sum_up a b h k = omega (arith, ints)
 
 lots_range : (n : ℤ) → lots_lawful n ≡ true → (pos 0 ≤ℤ n) × (n ≤ℤ pos 100000)
-lots_range n h =
-    let both = and_parts (le_z (pos 1) n) (le_z n (pos 100000)) h in
-    let low = le_from (pos 1) n both.0 in
-    (omega (arith, ints), le_from n (pos 100000) both.1)
+lots_range n h = (grind (arith, ints), grind (arith, ints))
 
 grown_trade : (n : ℕ) (f : Figures) (t p l : ℤ) → price_lawful p ≡ true → lots_lawful l ≡ true → Parts n (values f) → Parts (n + 1) (values (traded t p l f))
 grown_trade n f t p l h k v =
@@ -168,19 +166,7 @@ small_roomy : (f : Figures) → Small f → roomy f ≡ true
 small_roomy f s = and_from (leb (nat_abs f.lots) 3000000000) (leb (nat_abs f.money) 3000000000000000000) (le-leb _ _ s.lots) (le-leb _ _ s.money)
 
 -- a sound entry, where there is room, enters the figures that it concerns
-pub enters : (s : ℕ) (x : ℤ × ℤ) (f : Figures) (e : Entry) → stamp_small e.stamp ≡ true → kind_lawful e.kind ≡ true → Small f → cond (concerns s x e && (sound e && roomy f)) (marked e.kind e.stamp f) f ≡ entered_in s x f e
-enters s x f e stamp kind small =
-    let ready = and_from (sound e) (roomy f) (and_from (stamp_small e.stamp) (kind_lawful e.kind) stamp kind) (small_roomy f small) in
-    ap (λ b. cond (concerns s x e && b) (marked e.kind e.stamp f) f) ready ∙ ap (λ b. cond b (marked e.kind e.stamp f) f) (and_true (concerns s x e))
-  where
-    and_true : (b : Bool) → (b && true) ≡ b
-    and_true true = refl
-    and_true false = refl
-
--- what such an entry and such figures keep
-pub ready : (f : Figures) (e : Entry) (b : Bool) → (b && (sound e && roomy f)) ≡ true → (stamp_small e.stamp ≡ true) × ((kind_lawful e.kind ≡ true) × Small f)
-ready f e b h =
-    let both = and_parts (sound e) (roomy f) (and_parts b (sound e && roomy f) h).1 in
-    let kept = and_parts (stamp_small e.stamp) (kind_lawful e.kind) both.0 in
-    let room = and_parts (leb (nat_abs f.lots) 3000000000) (leb (nat_abs f.money) 3000000000000000000) both.1 in
-    (kept.0, (kept.1, record { lots = leb-true _ _ room.0; money = leb-true _ _ room.1 }))
+pub enters : (s : ℕ) (x : ℤ × ℤ) (f : Figures) (e : Entry) → sound e ≡ true → Small f → entered_if s x f e ≡ entered_in s x f e
+enters s x f e ok small =
+    let ready = and_from (sound e) (roomy f) ok (small_roomy f small) in
+    ap (λ b. cond (concerns s x e && b) (marked e.kind e.stamp f) f) ready ∙ ap (λ b. cond b (marked e.kind e.stamp f) f) (and-true (concerns s x e))

@@ -1,7 +1,6 @@
--- Entries handed to a book one after the other: what it took, and what it then means.
-use Rattle.std.proofs.Common.{◌≡◌, ℕ, ◌+◌, ◌<◌, Bool, true, false, cond, List, [], ◌∷◌, ◌++◌, length, get_or, take, is_ok, sym, refl, ap, ◌∙◌, subst, ⊎_elim, arith}
-use Rattle.std.proofs.lemmas.List.{append_assoc, append-nil, length-append, take_more}
-use Rattle.std.proofs.lemmas.List.Sums.{fold_more}
+-- What a new book means after entries were handed to it one after the other.
+use Rattle.std.proofs.Common.{◌≡◌, ℕ, true, false, List, [], ◌∷◌, ◌++◌, is_ok, sym, ap, ◌∙◌, subst, ⊎_elim}
+use Rattle.std.proofs.lemmas.List.{append_assoc, append-nil}
 use Rattle.std.proofs.lemmas.Bool.{cond-false, cond-true}
 use Rattle.book.specs.Evidence.{Evidence}
 use Rattle.book.specs.Ledgers.{Ledger, after, answer, fresh, grown}
@@ -12,43 +11,6 @@ use Rattle.book.specs.declared.entries.Entry.{Entry}
 use Rattle.book.proofs.Folds.{recorded_push}
 use Rattle.book.proofs.Taking.{taken_or_refused}
 use Rattle.book.proofs.Told.{evidence}
-
--- ---- one entry more
-
-push_either : (b : Bool) (e : Entry) (xs ys : List Entry) → cond b (e ∷ (xs ++ ys)) (xs ++ ys) ≡ cond b (e ∷ xs) xs ++ ys
-push_either true e xs ys = refl
-push_either false e xs ys = refl
-
-taken_push : (m : Ledger) (xs : List Entry) (e : Entry) → taken m (xs ++ (e ∷ [])) ≡ taken m xs ++ cond (is_ok (answer (after_all m xs) e)) (e ∷ []) []
-taken_push m [] e = refl
-taken_push m (x ∷ xs) e =
-    let more = taken_push (after m x) xs e in
-    ap (λ ys. cond (is_ok (answer m x)) (x ∷ ys) ys) more
-    ∙ push_either (is_ok (answer m x)) x (taken (after m x) xs) (cond (is_ok (answer (after_all (after m x) xs) e)) (e ∷ []) [])
-
-pub handed_more : (m now : Ledger) (es : List Entry) (i : ℕ) (d : Entry) (then : Ledger) → i < length es → now ≡ after_all m (take i es) → then ≡ after now (get_or es i d) → then ≡ after_all m (take (i + 1) es)
-handed_more m now es i d then h so_far here =
-    here ∙ ap (λ k. after k (get_or es i d)) so_far ∙ sym (fold_more after m es i d h)
-
--- the count goes up where the entry is taken
-counted_more : (m : Ledger) (es : List Entry) (i : ℕ) (d : Entry) → i < length es → length (taken m (take (i + 1) es)) ≡ length (taken m (take i es)) + length (cond (is_ok (answer (after_all m (take i es)) (get_or es i d))) (get_or es i d ∷ []) [])
-counted_more m es i d h =
-    ap (λ xs. length (taken m xs)) (take_more es i d h)
-    ∙ ap length (taken_push m (take i es) (get_or es i d))
-    ∙ length-append (taken m (take i es)) _
-
-pub counted_taken : (m now : Ledger) (es : List Entry) (i : ℕ) (d : Entry) (n : ℕ) → i < length es → now ≡ after_all m (take i es) → n ≡ length (taken m (take i es)) → is_ok (answer now (get_or es i d)) ≡ true → n + 1 ≡ length (taken m (take (i + 1) es))
-counted_taken m now es i d n h so_far count ok =
-    let b : is_ok (answer (after_all m (take i es)) (get_or es i d)) ≡ true = ap (λ k. is_ok (answer k (get_or es i d))) (sym so_far) ∙ ok in
-    ap (λ k. k + 1) count ∙ sym (counted_more m es i d h ∙ ap (λ xs. length (taken m (take i es)) + length xs) (cond-true _ (get_or es i d ∷ []) [] b))
-
-pub counted_refused : (m now : Ledger) (es : List Entry) (i : ℕ) (d : Entry) (n : ℕ) → i < length es → now ≡ after_all m (take i es) → n ≡ length (taken m (take i es)) → is_ok (answer now (get_or es i d)) ≡ false → n ≡ length (taken m (take (i + 1) es))
-counted_refused m now es i d n h so_far count ok =
-    let b : is_ok (answer (after_all m (take i es)) (get_or es i d)) ≡ false = ap (λ k. is_ok (answer k (get_or es i d))) (sym so_far) ∙ ok in
-    let more = counted_more m es i d h ∙ ap (λ xs. length (taken m (take i es)) + length xs) (cond-false _ (get_or es i d ∷ []) [] b) in
-    omega arith
-
--- ---- a new book means what the entries taken tell
 
 -- a book of the entries xs, handed the entries es, means what xs and those taken of es tell
 abbrev Recorded : Day → ℕ → List Entry → List Entry → Type 0

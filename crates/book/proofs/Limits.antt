@@ -1,5 +1,5 @@
 -- What the limits on prices and lots give for their products.
-use Rattle.std.proofs.Common.{◌≡◌, ℕ, ◌*◌, ◌≤◌, true, ℤ, pos, negsuc, ◌*ℤ◌, nat_abs, sym, refl, mul-le-mul_right, mul_comm, arith, w64, SFits}
+use Rattle.std.proofs.Common.{◌≡◌, ℕ, ◌*◌, ◌≤◌, true, ℤ, pos, negsuc, ◌*ℤ◌, nat_abs, sym, refl, mul-le-mul_right, mul_comm, arith}
 use Rattle.std.proofs.lemmas.Int.{ints}
 use Rattle.std.proofs.lemmas.Bool.{true≢false}
 use Rattle.book.specs.Entries.{price_lawful, lots_lawful}
@@ -22,13 +22,3 @@ worth_by_lots p (pos n) h k =
     let s = mul_comm 1000000000 n in
     omega arith
 worth_by_lots p (negsuc n) h k = absurd (true≢false (sym k))
-
-pub worth_bound : (p n : ℤ) → price_lawful p ≡ true → lots_lawful n ≡ true → nat_abs (p *ℤ n) ≤ 100000000000000
-worth_bound p n h k =
-    let by = worth_by_lots p n h k in
-    let few = lots_bound n k in
-    omega arith
-
-pub worth_fits : (z : ℤ) → nat_abs z ≤ 100000000000000 → SFits w64 z
-worth_fits (pos n) h = record { sfits = omega arith }
-worth_fits (negsuc n) h = record { sfits = omega arith }

@@ -1,9 +1,9 @@
 -- What an allowed entry keeps, and the series and windows that no entry is for.
-use Rattle.std.proofs.Common.{◌≡◌, ℕ, zero, suc, ◌<◌, true, false, ◌&&◌, leb, ℤ, pos, negsuc, nat_abs, ◌≤ℤ◌, sym, refl, ap, ◌∙◌, ⊎_elim, arith}
+use Rattle.std.proofs.Common.{◌≡◌, ℕ, zero, suc, ◌<◌, true, false, ◌&&◌, leb, ℤ, pos, negsuc, ◌≤ℤ◌, refl, ap, ◌∙◌, ⊎_elim, arith}
 use lib.Signed.{le_z, lt_z}
 use Rattle.std.proofs.lemmas.List.{get_or_past}
 use Rattle.std.proofs.lemmas.Int.{ints}
-use Rattle.std.proofs.lemmas.Bool.{and_parts, and_from, and_left, and_right, and_cases, cond-false, leb-true, leb-false, ne_eqb, true≢false}
+use Rattle.std.proofs.lemmas.Bool.{and_parts, and_from, and_left, and_right, and_cases, cond-false, leb-true, leb-false, ne_eqb}
 use Rattle.book.specs.Days.{is_lawful}
 use Rattle.book.specs.Entries.{allowed, kind_lawful}
 use Rattle.book.specs.Figures.{concerns, is_series, marked, stamp_small}
@@ -22,14 +22,6 @@ allowed_place : (d : Day) (e : Entry) → allowed d e ≡ true → ((le_z (pos 0
 allowed_place d e h =
     and_parts (le_z (pos 0) e.series && le_z e.series (pos 31)) (holds (d.night, d.close) e.stamp)
     (and_parts ((le_z (pos 0) e.series && le_z e.series (pos 31)) && holds (d.night, d.close) e.stamp) (kind_lawful e.kind) h).0
-
-series_named : (z : ℤ) → (le_z (pos 0) z && le_z z (pos 31)) ≡ true → (leb (nat_abs z) 31 ≡ true) × (z ≡ pos (nat_abs z))
-series_named (pos n) h = ((and_parts (le_z (pos 0) (pos n)) (le_z (pos n) (pos 31)) h).1, refl)
-series_named (negsuc n) h = absurd (true≢false (sym h))
-
--- an allowed entry names a series from 0 to 31
-pub allowed_series : (d : Day) (e : Entry) → allowed d e ≡ true → (leb (nat_abs e.series) 31 ≡ true) × (e.series ≡ pos (nat_abs e.series))
-allowed_series d e h = series_named e.series (allowed_place d e h).0
 
 -- a lawful day begins at second 0 or later and ends at second 172,799 or earlier
 day_ends : (d : Day) → is_lawful d ≡ true → (pos 0 ≤ℤ d.night) × (d.close ≤ℤ pos 172799)

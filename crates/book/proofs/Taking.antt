@@ -35,14 +35,6 @@ admitted m e ok =
     (λ p. absurd (both_ways (is_ok (answer m e)) p.0 (ap is_ok (sym ok))))
     (ways m e)
 
--- a refused entry changes nothing
-pub refused_stays : (m : Ledger) (e : Entry) (f : BookFault) → Err f ≡ answer m e → m ≡ after m e
-refused_stays m e f is =
-    ⊎_elim
-    (λ p. absurd (both_ways (is_ok (answer m e)) (ap is_ok (sym is)) p.2))
-    (λ p. sym p.1)
-    (ways m e)
-
 -- the book's answer, from its count and its capacity however they were come by
 pub same_reply : (m : Ledger) (n k : ℕ) (e : Entry) → n ≡ m.count → k ≡ m.capacity → reply m.day n k e ≡ answer m e
 same_reply m n k e count capacity = ap (λ x. reply m.day x k e) count ∙ ap (λ x. reply m.day m.count x e) capacity

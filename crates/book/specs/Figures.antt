@@ -112,3 +112,7 @@ stamp_small t = holds (pos 0, pos 172799) t
 -- an entry whose stamp and numbers are within the limits of any day
 abbrev pub sound : Entry → Bool
 sound e = stamp_small e.stamp && kind_lawful e.kind
+
+-- the same as `entered_in`, where the entry is sound and the sums have room; else the figures stay
+abbrev pub entered_if : ℕ → ℤ × ℤ → Figures → Entry → Figures
+entered_if s x f e = cond (concerns s x e && (sound e && roomy f)) (marked e.kind e.stamp f) f

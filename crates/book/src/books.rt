@@ -1,5 +1,5 @@
 // A book, known by its meaning alone.
-ghost use Rattle.std.specs.Prelude.{◌≡◌, ◌≤◌, true, ◌==◌};
+ghost use Rattle.std.specs.Prelude.{◌≡◌, ◌≤◌, true};
 ghost use Rattle.book.specs.Bounds.{bounded};
 ghost use Rattle.book.specs.Figures.{values};
 ghost use Rattle.book.specs.Ledgers.{Ledger, Lawful, after, answer, reply};
@@ -9,25 +9,21 @@ use crate::entries::{Entry, is_allowed};
 use crate::faults::BookFault;
 use crate::marks::Values;
 
-fn is_full(count: usize, capacity: usize) -> bool
-    ensures { result ≡ (count == capacity) }
-{
-    count == capacity
-}
+// No book holds more entries.
+pub const MOST: usize = 30_000;
 
 // Whether a book of the day, with so many entries taken, may take the entry. A number beyond its limits comes before a
 // full book.
 pub fn admit(day: &Day, count: usize, capacity: usize, entry: &Entry) -> Result<(), BookFault>
     ensures { result ≡ reply day.now count capacity entry.now }
 {
-    let full = is_full(count, capacity);
     if !is_allowed(day, entry) {
-        return Err(BookFault::BeyondLimits);
+        Err(BookFault::BeyondLimits)
+    } else if count == capacity {
+        Err(BookFault::Full)
+    } else {
+        Ok(())
     }
-    if full {
-        return Err(BookFault::Full);
-    }
-    Ok(())
 }
 
 pub trait Book {
@@ -45,6 +41,7 @@ pub trait Book {
         ensures bounds { bounded (meaning self.now).count result ≡ true }
         ensures few { (meaning self.now).count ≤ 30000 };
 
+    // What holds of every book is a clause here, where a caller meets it: a law beside it would say the same twice.
     fn day(&self) -> Day
         ensures value { result ≡ (meaning self.now).day }
         ensures lawful { Lawful (meaning self.now) };

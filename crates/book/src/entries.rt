@@ -37,28 +37,25 @@ pub struct Entry {
 pub fn is_price(v: i64) -> bool
     ensures { result ≡ price_lawful v }
 {
-    (-PRICE_LIMIT <= v) & (v <= PRICE_LIMIT)
+    (-PRICE_LIMIT..=PRICE_LIMIT).contains(&v)
 }
 
 pub fn is_spread(v: i64) -> bool
     ensures { result ≡ spread_lawful v }
 {
-    (-SPREAD_LIMIT <= v) & (v <= SPREAD_LIMIT)
+    (-SPREAD_LIMIT..=SPREAD_LIMIT).contains(&v)
 }
 
 fn is_lots(n: i64) -> bool
     ensures { result ≡ lots_lawful n }
 {
-    (1 <= n) & (n <= LOTS_LIMIT)
+    (1..=LOTS_LIMIT).contains(&n)
 }
 
 pub fn is_side(side: Option<i64>) -> bool
     ensures { result ≡ side_lawful side }
 {
-    match side {
-        Some(v) => is_price(v),
-        None => true,
-    }
+    side.is_none_or(is_price)
 }
 
 fn is_uncrossed(bid: Option<i64>, ask: Option<i64>) -> bool
@@ -66,8 +63,7 @@ fn is_uncrossed(bid: Option<i64>, ask: Option<i64>) -> bool
 {
     match (bid, ask) {
         (Some(b), Some(a)) => b < a,
-        (Some(_), None) => true,
-        (None, _) => true,
+        _ => true,
     }
 }
 
@@ -75,11 +71,12 @@ pub(crate) fn is_kind_lawful(kind: Kind) -> bool
     ensures { result ≡ kind_lawful kind }
 {
     match kind {
-        Kind::Trade { price, lots } => is_price(price) & is_lots(lots),
-        Kind::Auction { price, lots } => is_price(price) & is_lots(lots),
-        Kind::Leg { price, lots } => is_price(price) & is_lots(lots),
+        // Three arms of one body: an or-pattern gets no proof where it binds an `i64`, which the prover then takes for unsigned.
+        Kind::Trade { price, lots } => is_price(price) && is_lots(lots),
+        Kind::Auction { price, lots } => is_price(price) && is_lots(lots),
+        Kind::Leg { price, lots } => is_price(price) && is_lots(lots),
         Kind::Spread { difference } => is_spread(difference),
-        Kind::Quote { bid, ask } => (is_side(bid) & is_side(ask)) & is_uncrossed(bid, ask),
+        Kind::Quote { bid, ask } => is_side(bid) && is_side(ask) && is_uncrossed(bid, ask),
     }
 }
 
@@ -87,7 +84,8 @@ pub(crate) fn is_kind_lawful(kind: Kind) -> bool
 pub fn is_allowed(day: &Day, entry: &Entry) -> bool
     ensures { result ≡ allowed day.now entry.now }
 {
-    let series = (0 <= entry.series) & (entry.series <= LAST_SERIES);
-    let stamp = (day.night <= entry.stamp) & (entry.stamp <= day.close);
-    (series & stamp) & is_kind_lawful(entry.kind)
+    // Joined by `&`: with `&&` in three parts the goal stays open.
+    let series = (0..=LAST_SERIES).contains(&entry.series);
+    let stamp = (day.night..=day.close).contains(&entry.stamp);
+    series & stamp & is_kind_lawful(entry.kind)
 }

@@ -15,6 +15,7 @@ pub enum BookFault {
     Full,
 }
 
+// A named method: `u8::from(fault)` would not say what the number is.
 impl DayFault {
     pub fn number(self) -> u8
         ensures { result ≡ day_number self }

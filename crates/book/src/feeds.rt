@@ -15,6 +15,7 @@ pub fn take_all<B: Book>(book: &mut B, entries: &[Entry]) -> usize
     ensures after { B.meaning book.new ≡ after_all (B.meaning book.old) entries.now }
     ensures evidence { (d : Day) (k : ℕ) → B.meaning book.old ≡ fresh d k → Evidence (B.meaning book.new) (taken (fresh d k) entries.now) }
 {
+    // A loop, since taking has an effect, which a filter that is counted would hide.
     let mut count = 0;
     for e in entries {
         if book.take(*e).is_ok() {

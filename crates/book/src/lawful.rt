@@ -11,7 +11,7 @@ const EVENING_END: i64 = 86_399;
 
 const MIDNIGHT: i64 = 86_400;
 
-const DAY_END: i64 = 172_799;
+pub(crate) const DAY_END: i64 = 172_799;
 
 #[derive(Clone, Copy)]
 pub struct LawfulDay {
@@ -22,6 +22,7 @@ pub struct LawfulDay {
 fn is_lawful(day: &Day) -> bool
     ensures { result ≡ is_lawful day.now }
 {
+    // Comparisons joined by `&`: with `&&` for them, or with `contains` of a range for the first two, the goal stays open.
     let night = (0 <= day.night) & (day.night <= EVENING_END);
     let openings = (MIDNIGHT <= day.opening) & (day.opening <= day.afternoon);
     let close = (day.afternoon < day.close) & (day.close <= DAY_END);
@@ -30,7 +31,7 @@ fn is_lawful(day: &Day) -> bool
 }
 
 impl LawfulDay {
-    // The day record, if it is lawful.
+    // The day record, if it is lawful. `TryFrom` would read no plainer: `LawfulDay::new` says what is made.
     pub fn new(day: Day) -> Result<LawfulDay, DayFault>
         ensures { MatchResult result (λ l. (is_lawful day ≡ true) × (l.day ≡ day)) (λ f. (is_lawful day ≡ false) × (f ≡ NotLawful)) }
     {

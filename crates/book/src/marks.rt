@@ -1,13 +1,12 @@
 // The figures of one series and window.
-ghost use Rattle.std.specs.Prelude.{◌≡◌, ◌≤◌, true, ◌&&◌, ◌*ℤ◌, if◌then◌else◌, unsigned_abs};
+ghost use Rattle.std.specs.Prelude.{◌≡◌, ◌≤◌, true, ◌*ℤ◌, unsigned_abs};
 ghost use Rattle.book.specs.Entries.{kind_lawful, lots_lawful, price_lawful, side_lawful};
-ghost use Rattle.book.specs.Figures.{Small, concerns, empty, latest, marked, roomy, settled, sound, stamp_small, traded, values};
+ghost use Rattle.book.specs.Figures.{Small, concerns, empty, entered_if, latest, marked, roomy, settled, sound, stamp_small, traded, values};
 
 use crate::entries::{Entry, Kind, is_kind_lawful};
+use crate::lawful::DAY_END;
 
-// The last second of any day, and what the sums of 30,000 entries keep within.
-const LAST_STAMP: i64 = 172_799;
-
+// What the sums of 30,000 entries keep within.
 const MOST_LOTS: u64 = 3_000_000_000;
 
 const MOST_MONEY: u64 = 3_000_000_000_000_000_000;
@@ -27,7 +26,7 @@ pub struct Sides {
 }
 
 // Stamps and prices are kept in 32 bits, so that a table of all series and windows stays small.
-#[derive(Clone, Copy, PartialEq, Eq, Debug)]
+#[derive(Clone, Copy, Default, PartialEq, Eq, Debug)]
 pub struct Figures {
     pub trade: Option<Last<i32>>,
     pub auction: Option<Last<i32>>,
@@ -38,8 +37,9 @@ pub struct Figures {
     pub money: i64,
 }
 
-// The figures as they are read: without the stamps.
-#[derive(Clone, Copy, PartialEq, Eq, Debug)]
+// The figures as they are read: without the stamps. One struct over the type of a last figure would be no plainer: the
+// quote would need a parameter of its own, and specs and other crates name both.
+#[derive(Clone, Copy, Default, PartialEq, Eq, Debug)]
 pub struct Values {
     pub trade: Option<i32>,
     pub auction: Option<i32>,
@@ -54,14 +54,8 @@ fn latest<V: Copy>(old: Option<Last<V>>, stamp: i32, value: V) -> Option<Last<V>
     ensures { result ≡ latest old stamp value }
 {
     match old {
-        Some(last) => {
-            if last.stamp <= stamp {
-                Some(Last { stamp, value })
-            } else {
-                Some(last)
-            }
-        }
-        None => Some(Last { stamp, value }),
+        Some(last) if stamp < last.stamp => Some(last),
+        _ => Some(Last { stamp, value }),
     }
 }
 
@@ -69,10 +63,7 @@ fn latest<V: Copy>(old: Option<Last<V>>, stamp: i32, value: V) -> Option<Last<V>
 fn settled<V: Copy>(last: Option<Last<V>>) -> Option<V>
     ensures { result ≡ settled last }
 {
-    match last {
-        Some(last) => Some(last.value),
-        None => None,
-    }
+    last.map(|l| l.value)
 }
 
 // A number within the price limit, in 32 bits.
@@ -87,20 +78,26 @@ fn short_side(side: Option<i64>) -> Option<i32>
     requires { side_lawful side ≡ true }
     ensures { result ≡ side }
 {
-    match side {
-        Some(v) => Some(short(v)),
-        None => None,
-    }
+    side.map(short)
 }
 
-// Price times lots.
-fn worth(price: i64, lots: i64) -> i64
-    requires price { price_lawful price ≡ true }
-    requires lots { lots_lawful lots ≡ true }
-    ensures value { result ≡ price *ℤ lots }
-    ensures bound { unsigned_abs result ≤ 100000000000000 }
-{
-    price * lots
+// The price and the lots of a trade, within their limits.
+#[derive(Clone, Copy)]
+struct Deal {
+    price: i64,
+    lots: i64,
+    ghost priced: { price_lawful price ≡ true },
+    ghost sized: { lots_lawful lots ≡ true },
+}
+
+impl Deal {
+    // Price times lots.
+    fn worth(self) -> i64
+        ensures value { result ≡ self.price *ℤ self.lots }
+        ensures bound { unsigned_abs result ≤ 100000000000000 }
+    {
+        self.price * self.lots
+    }
 }
 
 // Whether an entry is for a series and its stamp lies in a window with these edges.
@@ -108,14 +105,14 @@ fn concerns(e: &Entry, series: u8, edges: (i64, i64)) -> bool
     ensures { result ≡ concerns series edges e.now }
 {
     let (first, last) = edges;
-    (e.series == i64::from(series)) & ((first <= e.stamp) & (e.stamp <= last))
+    e.series == i64::from(series) && (first..=last).contains(&e.stamp)
 }
 
 // Whether the stamp and the numbers of an entry are within the limits of any day.
 fn is_sound(e: &Entry) -> bool
     ensures { result ≡ sound e.now }
 {
-    ((0 <= e.stamp) & (e.stamp <= LAST_STAMP)) & is_kind_lawful(e.kind)
+    (0..=DAY_END).contains(&e.stamp) && is_kind_lawful(e.kind)
 }
 
 impl Figures {
@@ -123,14 +120,7 @@ impl Figures {
     pub fn empty() -> Figures
         ensures { result ≡ empty }
     {
-        Figures {
-            trade: None,
-            auction: None,
-            spread: None,
-            quote: None,
-            lots: 0,
-            money: 0,
-        }
+        Figures::default()
     }
 
     // The figures without the stamps.
@@ -148,15 +138,13 @@ impl Figures {
     }
 
     // A trade enters the last trade and the sums.
-    fn add_trade(&mut self, stamp: i32, price: i64, lots: i64)
-        requires price { price_lawful price ≡ true }
-        requires lots { lots_lawful lots ≡ true }
-        requires room { Small self.old }
-        ensures { self.new ≡ traded stamp price lots self.old }
+    fn add_trade(&mut self, stamp: i32, deal: Deal)
+        requires { Small self.old }
+        ensures { self.new ≡ traded stamp deal.price deal.lots self.old }
     {
-        self.trade = latest(self.trade, stamp, short(price));
-        self.lots += lots;
-        self.money += worth(price, lots);
+        self.trade = latest(self.trade, stamp, short(deal.price));
+        self.lots += deal.lots;
+        self.money += deal.worth();
     }
 
     // An entry enters the figures by its kind.
@@ -168,10 +156,10 @@ impl Figures {
     {
         let stamp = short(e.stamp);
         match e.kind {
-            Kind::Trade { price, lots } => self.add_trade(stamp, price, lots),
+            Kind::Trade { price, lots } => self.add_trade(stamp, Deal { price, lots }),
             Kind::Auction { price, lots } => {
                 self.auction = latest(self.auction, stamp, short(price));
-                self.add_trade(stamp, price, lots);
+                self.add_trade(stamp, Deal { price, lots });
             }
             Kind::Leg { .. } => {}
             Kind::Spread { difference } => {
@@ -191,15 +179,15 @@ impl Figures {
     fn has_room(&self) -> bool
         ensures { result ≡ roomy self.now }
     {
-        (self.lots.unsigned_abs() <= MOST_LOTS) & (self.money.unsigned_abs() <= MOST_MONEY)
+        self.lots.unsigned_abs() <= MOST_LOTS && self.money.unsigned_abs() <= MOST_MONEY
     }
 
     // An entry enters the figures of a series and of a window with these edges, if it is for them. An entry beyond the
     // limits of any day, or one for which the sums have no room, changes nothing.
     pub fn enter_in(&mut self, e: &Entry, series: u8, edges: (i64, i64))
-        ensures { self.new ≡ (if concerns series edges e.now && (sound e.now && roomy self.old) then marked e.now.kind e.now.stamp self.old else self.old) }
+        ensures { self.new ≡ entered_if series edges self.old e.now }
     {
-        if concerns(e, series, edges) & (is_sound(e) & self.has_room()) {
+        if concerns(e, series, edges) && is_sound(e) && self.has_room() {
             self.enter(e);
         }
     }

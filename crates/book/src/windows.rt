@@ -27,7 +27,8 @@ fn before(stamp: i64) -> i64
     if 0 < stamp { stamp - 1 } else { stamp }
 }
 
-// The first and the last second of a window of the day; of a number that no window has, an empty one.
+// The first and the last second of a window of the day; of a number that no window has, an empty one. The window is a raw
+// number, since a narrower type would ask more of callers, and its edges are a pair, as the rules have them.
 pub fn edges(day: &Day, window: u8) -> (i64, i64)
     ensures { result ≡ edges day.now window }
 {

@@ -3,8 +3,10 @@
 #![tactic(auto)]
 
 mod reading;
+mod showing;
 
-use crate::reading::{day_of, entry_of};
+use crate::reading::{Line, line_of};
+use crate::showing::Told;
 use anyhow::anyhow;
 use board::boards::Board;
 use book::books::Book;
@@ -18,29 +20,30 @@ use tape::tapes::Tape;
 // A small day: more entries than these find the books full.
 const PLACES: usize = 256;
 
-fn shown(rt: &impl Print, value: Option<i32>) -> anyhow::Result<()> {
-    match value {
-        Some(v) => print!(rt; " {v}")?,
-        None => print!(rt; " -")?,
+// What stands in a place of the tape before it is used.
+const BLANK: Entry = Entry {
+    series: 0,
+    stamp: 0,
+    kind: Kind::Leg { price: 0, lots: 0 },
+};
+
+// The day of the input, if it has one, and the entries in their order.
+fn read(rt: &HostRuntime) -> anyhow::Result<(Option<Day>, Vec<Entry>)> {
+    let heap = rt.alloc();
+    let mut day = None;
+    let mut entries = Vec::new(heap);
+    for line in rt.lines(heap) {
+        match line_of(line?.as_str())? {
+            Line::Day(record) => day = Some(record),
+            Line::Entry(entry) => entries.push(entry)?,
+        }
     }
-    Ok(())
+    Ok((day, entries))
 }
 
-fn show(rt: &impl Print, values: &Values) -> anyhow::Result<()> {
-    shown(rt, values.trade)?;
-    shown(rt, values.auction)?;
-    shown(rt, values.spread)?;
-    match values.quote {
-        Some(q) => {
-            shown(rt, q.bid)?;
-            shown(rt, q.ask)?;
-        }
-        None => print!(rt; " none")?,
-    }
-    let lots = values.lots;
-    let money = values.money;
-    print!(rt; " {lots} {money}")?;
-    Ok(())
+// How books that agree, or do not, are told.
+fn verdict(same: bool) -> &'static str {
+    if same { "equal" } else { "differ" }
 }
 
 // One line for a series and window for which a book has figures, and whether the books agree there.
@@ -54,40 +57,23 @@ fn compare<A: Book, B: Book>(
     let a = one.figures(series, window);
     let b = other.figures(series, window);
     let same = a == b;
-    let nothing = one.figures(series, 0);
-    if a != nothing || !same {
-        print!(rt; "series {series} window {window} tape")?;
-        show(rt, &a)?;
-        print!(rt; " board")?;
-        show(rt, &b)?;
-        println!(rt; " {}", if same { "equal" } else { "differ" })?;
+    if a != Values::default() || !same {
+        println!(rt;
+            "series {series} window {window} tape {} board {} {}",
+            Told(a),
+            Told(b),
+            verdict(same)
+        )?;
     }
     Ok(same)
-}
-
-// The day of the input, if it has one, and the entries in their order.
-fn read(rt: &HostRuntime) -> anyhow::Result<(Option<Day>, Vec<Entry>)> {
-    let heap = rt.alloc();
-    let mut day: Option<Day> = None;
-    let mut entries: Vec<Entry> = Vec::new(heap);
-    for line in rt.lines(heap) {
-        let line = line?;
-        if line.starts_with("day ") {
-            day = Some(day_of(line.as_str())?);
-        } else {
-            entries.push(entry_of(line.as_str())?)?;
-        }
-    }
-    Ok((day, entries))
 }
 
 // The figures of every series and window, and whether the books agree in all of them.
 fn compare_all<A: Book, B: Book>(rt: &impl Print, one: &A, other: &B) -> anyhow::Result<bool> {
     let mut all = true;
-    for series in 0..32u8 {
-        for window in 1..14u8 {
-            let same = compare(rt, one, other, series, window)?;
-            all = all & same;
+    for series in 0..32 {
+        for window in 1..14 {
+            all &= compare(rt, one, other, series, window)?;
         }
     }
     Ok(all)
@@ -105,19 +91,14 @@ fn run(rt: &HostRuntime) -> anyhow::Result<()> {
             return Ok(());
         }
     };
-    let blank = Entry {
-        series: 0,
-        stamp: 0,
-        kind: Kind::Leg { price: 0, lots: 0 },
-    };
-    let mut slots = [blank; PLACES];
+    let mut slots = [BLANK; PLACES];
     let mut tape = Tape::new(lawful, &mut slots);
     let mut board = Board::new(lawful, PLACES);
     let (on_tape, on_board) = take_both(&mut tape, &mut board, &entries);
     let count = entries.len();
     println!(rt; "entries {count} tape {on_tape} board {on_board}")?;
     let all = compare_all(rt, &tape, &board)?;
-    println!(rt; "{}", if all { "equal" } else { "differ" })?;
+    println!(rt; "{}", verdict(all))?;
     Ok(())
 }
 

@@ -3,23 +3,29 @@ use anyhow::anyhow;
 use book::days::Day;
 use book::entries::{Entry, Kind};
 
+pub(crate) enum Line {
+    Day(Day),
+    Entry(Entry),
+}
+
 // The numbers of a line, in their order; missing ones are None.
-fn numbers(line: &str) -> anyhow::Result<[Option<i64>; 5]> {
+fn numbers(fields: &str) -> anyhow::Result<[Option<i64>; 5]> {
     let mut found = [None; 5];
-    for (i, field) in line.split(' ').skip(1).enumerate() {
-        if i >= 5 {
+    let mut places = found.iter_mut();
+    for field in fields.split(' ') {
+        let Some(place) = places.next() else {
             return Err(anyhow!("too many fields"));
-        }
+        };
         if field != "-" {
-            found[i] = Some(field.parse::<i64>()?);
+            *place = Some(field.parse::<i64>()?);
         }
     }
     Ok(found)
 }
 
 // `day`: night opening, day opening, afternoon opening, close, morning cut.
-pub(crate) fn day_of(line: &str) -> anyhow::Result<Day> {
-    match numbers(line)? {
+fn day_of(fields: &str) -> anyhow::Result<Day> {
+    match numbers(fields)? {
         [
             Some(night),
             Some(opening),
@@ -38,45 +44,36 @@ pub(crate) fn day_of(line: &str) -> anyhow::Result<Day> {
 }
 
 // `trade`, `auction` and `leg` have price and lots, `spread` the difference, `quote` bid and ask.
-fn kind_of(line: &str, first: Option<i64>, second: Option<i64>) -> anyhow::Result<Kind> {
-    if line.starts_with("quote ") {
-        return Ok(Kind::Quote {
-            bid: first,
-            ask: second,
-        });
-    }
-    let Some(price) = first else {
-        return Err(anyhow!("a price is missing"));
-    };
-    if line.starts_with("spread ") {
-        return Ok(Kind::Spread { difference: price });
-    }
-    let Some(lots) = second else {
-        return Err(anyhow!("the lots are missing"));
-    };
-    if line.starts_with("trade ") {
-        Ok(Kind::Trade { price, lots })
-    } else if line.starts_with("auction ") {
-        Ok(Kind::Auction { price, lots })
-    } else if line.starts_with("leg ") {
-        Ok(Kind::Leg { price, lots })
-    } else {
-        Err(anyhow!("no such command"))
+fn kind_of(command: &str, first: Option<i64>, second: Option<i64>) -> anyhow::Result<Kind> {
+    match (command, first, second) {
+        ("quote", bid, ask) => Ok(Kind::Quote { bid, ask }),
+        (_, None, _) => Err(anyhow!("a price is missing")),
+        ("spread", Some(difference), _) => Ok(Kind::Spread { difference }),
+        (_, _, None) => Err(anyhow!("the lots are missing")),
+        ("trade", Some(price), Some(lots)) => Ok(Kind::Trade { price, lots }),
+        ("auction", Some(price), Some(lots)) => Ok(Kind::Auction { price, lots }),
+        ("leg", Some(price), Some(lots)) => Ok(Kind::Leg { price, lots }),
+        _ => Err(anyhow!("no such command")),
     }
 }
 
 // An entry line: its kind, the series, the stamp, and the numbers of the kind.
-pub(crate) fn entry_of(line: &str) -> anyhow::Result<Entry> {
-    let [series, stamp, first, second, _] = numbers(line)?;
-    let Some(series) = series else {
-        return Err(anyhow!("the series is missing"));
-    };
-    let Some(stamp) = stamp else {
-        return Err(anyhow!("the stamp is missing"));
-    };
-    Ok(Entry {
-        series,
-        stamp,
-        kind: kind_of(line, first, second)?,
-    })
+fn entry_of(command: &str, fields: &str) -> anyhow::Result<Entry> {
+    match numbers(fields)? {
+        [None, ..] => Err(anyhow!("the series is missing")),
+        [_, None, ..] => Err(anyhow!("the stamp is missing")),
+        [Some(series), Some(stamp), first, second, _] => Ok(Entry {
+            series,
+            stamp,
+            kind: kind_of(command, first, second)?,
+        }),
+    }
+}
+
+pub(crate) fn line_of(line: &str) -> anyhow::Result<Line> {
+    match line.split_once(' ') {
+        Some(("day", fields)) => Ok(Line::Day(day_of(fields)?)),
+        Some((command, fields)) => Ok(Line::Entry(entry_of(command, fields)?)),
+        None => Err(anyhow!("the series is missing")),
+    }
 }

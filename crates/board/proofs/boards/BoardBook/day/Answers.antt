@@ -1,17 +1,13 @@
-use Rattle.std.proofs.Common.{refl}
 use Rattle.board.proofs.Places.{cell_outside}
 use Rattle.board.proofs.boards.BoardBook.day.Goals as goal
 
-pub returns : goal.returns
-returns c =
+pub returns-clause-lawful : goal.returns-clause-lawful
+returns-clause-lawful c =
     let b = c.args.self.now in
     record {
-      value = refl;
-      lawful = record {
-        lawful_day = b.lawful;
-        most = b.most;
-        room = b.room;
-        bounds = λ s w. b.bounds (s, w);
-        outside = cell_outside b.table.cells;
-      };
+      lawful_day = b.day.lawful;
+      most = b.most;
+      room = b.room;
+      bounds = b.bounds;
+      outside = cell_outside b.table.cells;
     }

@@ -1,8 +1,7 @@
-use Rattle.std.proofs.Common.{refl}
 use Rattle.tape.proofs.Stored.{tape_is_lawful}
 use Rattle.tape.proofs.tapes.TapeBook.day.Goals as goal
 
-pub returns : goal.returns
-returns c =
+pub returns-clause-lawful : goal.returns-clause-lawful
+returns-clause-lawful c =
     let t = c.args.self.now in
-    record { value = refl; lawful = tape_is_lawful t.day t.slots.now t.count t.lawful t.held t.few t.allowed }
+    tape_is_lawful t.day.day t.slots.now t.count t.day.lawful t.held t.few t.allowed
