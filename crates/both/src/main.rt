@@ -36,7 +36,7 @@ const BLANK: Entry = Entry {
     kind: Kind::Leg { price: 0, lots: 0 },
 };
 
-// Stepped ladders of one band each, of these ticks, at most four.
+// Stepped ladders of one band each, of these ticks, at most four, as a day line has; so no vector is needed.
 fn stepped(ticks: &[i64]) -> Result<SteppedSet, LadderFault> {
     let mut bands = [Band {
         start: None,

@@ -58,6 +58,7 @@ impl<L: LadderSet, B: Book> Question<'_, L, B> {
         let series = &self.series;
         let ladder = series.terms.ladder;
         let reference = price_of(self.reference);
+        // A match, and no table of functions: the steps are closed, and look at different things.
         match step {
             Step::Auction => values.auction.map(i64::from),
             Step::Trade => values.trade.map(i64::from),

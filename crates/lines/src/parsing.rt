@@ -4,7 +4,9 @@
 ghost use Rattle.std.specs.Prelude.{◌≡◌};
 ghost use Rattle.lines.specs.Reading.{ReadFrom};
 ghost use Rattle.lines.specs.Spelled.{Alone, FieldsEnd, Longest, Named, OnePlace, Parsed, Within, WritingsApart, values};
+ghost use Rattle.lines.specs.declared.calls.LineCall.TheVariants as lines;
 ghost use Rattle.lines.specs.declared.names.Command.TheVariants as commands;
+ghost use Rattle.runs.specs.declared.calls.Call.TheVariants as calls;
 
 use crate::calls::LineCall;
 use crate::faults::NotRead;
@@ -73,54 +75,44 @@ fn read_bell(reader: &mut Reader<'_>) -> Result<LineCall, NotRead>
     Ok(LineCall::Call(Call::Ring(bell)))
 }
 
+fn entry(series: i64, stamp: i64, kind: Kind) -> LineCall
+    ensures { result ≡ lines.Call (calls.Enter (record { series = series; stamp = stamp; kind = kind })) }
+{
+    LineCall::Call(Call::Enter(Entry {
+        series,
+        stamp,
+        kind,
+    }))
+}
+
 // Trades, auctions and legs one by one: a function that took the kind as a closure could only promise by way of the closure,
 // and not that the line is a trade's.
 fn read_trade(reader: &mut Reader<'_>) -> Result<LineCall, NotRead>
     ensures { ReadFrom values (Named commands.Trade) reader.old result }
 {
     let (series, (stamp, (price, (lots, ())))) = Deal::from_fields(reader)?;
-    let kind = Kind::Trade { price, lots };
-    Ok(LineCall::Call(Call::Enter(Entry {
-        series,
-        stamp,
-        kind,
-    })))
+    Ok(entry(series, stamp, Kind::Trade { price, lots }))
 }
 
 fn read_auction(reader: &mut Reader<'_>) -> Result<LineCall, NotRead>
     ensures { ReadFrom values (Named commands.Auction) reader.old result }
 {
     let (series, (stamp, (price, (lots, ())))) = Deal::from_fields(reader)?;
-    let kind = Kind::Auction { price, lots };
-    Ok(LineCall::Call(Call::Enter(Entry {
-        series,
-        stamp,
-        kind,
-    })))
+    Ok(entry(series, stamp, Kind::Auction { price, lots }))
 }
 
 fn read_leg(reader: &mut Reader<'_>) -> Result<LineCall, NotRead>
     ensures { ReadFrom values (Named commands.Leg) reader.old result }
 {
     let (series, (stamp, (price, (lots, ())))) = Deal::from_fields(reader)?;
-    let kind = Kind::Leg { price, lots };
-    Ok(LineCall::Call(Call::Enter(Entry {
-        series,
-        stamp,
-        kind,
-    })))
+    Ok(entry(series, stamp, Kind::Leg { price, lots }))
 }
 
 fn read_spread(reader: &mut Reader<'_>) -> Result<LineCall, NotRead>
     ensures { ReadFrom values (Named commands.Spread) reader.old result }
 {
     let (series, (stamp, (difference, ()))) = <(i64, (i64, (i64, ())))>::from_fields(reader)?;
-    let kind = Kind::Spread { difference };
-    Ok(LineCall::Call(Call::Enter(Entry {
-        series,
-        stamp,
-        kind,
-    })))
+    Ok(entry(series, stamp, Kind::Spread { difference }))
 }
 
 fn read_quote(reader: &mut Reader<'_>) -> Result<LineCall, NotRead>
@@ -130,12 +122,7 @@ fn read_quote(reader: &mut Reader<'_>) -> Result<LineCall, NotRead>
         i64,
         (i64, (Option<i64>, (Option<i64>, ()))),
     )>::from_fields(reader)?;
-    let kind = Kind::Quote { bid, ask };
-    Ok(LineCall::Call(Call::Enter(Entry {
-        series,
-        stamp,
-        kind,
-    })))
+    Ok(entry(series, stamp, Kind::Quote { bid, ask }))
 }
 
 fn read_theory(reader: &mut Reader<'_>) -> Result<LineCall, NotRead>
@@ -167,6 +154,7 @@ fn read_settle(reader: &mut Reader<'_>) -> Result<LineCall, NotRead>
 fn read(command: Command, reader: &mut Reader<'_>) -> Result<LineCall, NotRead>
     ensures { ReadFrom values (Named command) reader.old result }
 {
+    // A match, and no table of functions: the commands are closed, and each arm is a promise of its own.
     match command {
         Command::Day => read_day(reader),
         Command::List => read_list(reader),

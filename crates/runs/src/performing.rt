@@ -20,6 +20,7 @@ pub fn perform<L: LadderSet, B: Book>(
     ensures after { world house.new (B.Book.meaning book.new) ≡ next (L.LadderSet.size house.old.set) (L.LadderSet.lawful house.old.set) call.now (world house.old (B.Book.meaning book.old)) }
     ensures set { house.new.set ≡ house.old.set }
 {
+    // A match, and no table of functions: the calls are closed, and have different parts.
     match *call {
         Call::List(listing) => house.list(listing).map(Reply::Listed),
         Call::Ring(bell) => house.ring(bell).map(|()| Reply::Done),

@@ -26,6 +26,7 @@ stored_more d slots n e h =
 
 -- what a tape stores of an entry that it did not refuse
 pub record Stores (d : Day) (slots : List Entry) (n : ℕ) (e : Entry) : Type 0 where
+  pub held : n + 1 ≤ length (set slots n e)
   pub allowed : every (allowed d) (take (n + 1) (set slots n e)) ≡ true
   pub after : recorded d (min (length (set slots n e)) 30000) (take (n + 1) (set slots n e)) ≡ after (recorded d (min (length slots) 30000) (take n slots)) e
 
@@ -36,7 +37,9 @@ stores d slots n k e held few all fit ok =
     let a = admitted m e (ok ∙ same_reply m n k e (sym count) fit) in
     let free : n ≡ min (length slots) 30000 → ⊥ = λ same. a.place (count ∙ same) in
     let place : n < length slots = omega arith in
+    let kept = length-set slots n e in
     record {
+      held = omega arith;
       allowed = ap (every (allowed d)) (take_more_set slots n e place) ∙ every_push (allowed d) (take n slots) e all a.lawful;
       after = stored_more d slots n e place ∙ sym a.grows;
     }

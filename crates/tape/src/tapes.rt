@@ -1,5 +1,6 @@
 // The tape.
 ghost use Rattle.std.specs.Prelude.{◌≡◌, ◌≤◌, min, true, length, take};
+ghost use Rattle.book.specs.Days.{is_lawful};
 ghost use Rattle.book.specs.Entries.{allowed};
 ghost use Rattle.book.specs.Ledgers.{fresh};
 ghost use Rattle.book.specs.Records.{every, recorded};
@@ -19,21 +20,24 @@ use book::windows::edges;
 pub struct Tape<'a> {
     slots: &'a mut [Entry],
     count: usize,
-    day: LawfulDay,
+    // Not a `LawfulDay`: the borrow checker covers no type argument that holds a `&mut` and a struct with a ghost field, and
+    // tapes are type arguments of whatever takes any book.
+    day: Day,
+    ghost lawful: { is_lawful day ≡ true },
     ghost held: { count ≤ length slots.now },
     ghost few: { count ≤ 30000 },
-    ghost allowed: { every (allowed day.day) (take count slots.now) ≡ true },
+    ghost allowed: { every (allowed day) (take count slots.now) ≡ true },
 }
 
 impl<'a> Tape<'a> {
     // An empty tape for the day: it has as many places as it is lent, and at most 30,000.
     pub fn new(day: LawfulDay, slots: &'a mut [Entry]) -> Tape<'a>
-        ensures { recorded result.day.day (min (length result.slots.now) 30000) (take result.count result.slots.now) ≡ fresh day.day (min (length slots.old) 30000) }
+        ensures { recorded result.day (min (length result.slots.now) 30000) (take result.count result.slots.now) ≡ fresh day.day (min (length slots.old) 30000) }
     {
         Tape {
             slots,
             count: 0,
-            day,
+            day: day.day(),
         }
     }
 
@@ -46,7 +50,7 @@ impl<'a> Tape<'a> {
 }
 
 impl Book for Tape<'_> {
-    ghost meaning = { λ t. recorded t.day.day (min (length t.slots.now) 30000) (take t.count t.slots.now) };
+    ghost meaning = { λ t. recorded t.day (min (length t.slots.now) 30000) (take t.count t.slots.now) };
 
     fn take(&mut self, entry: Entry) -> Result<(), BookFault> {
         admit(&self.day(), self.count, self.places(), &entry)?;
@@ -56,12 +60,12 @@ impl Book for Tape<'_> {
     }
 
     fn figures(&self, series: u8, window: u8) -> Values {
-        let edges = edges(&self.day(), window);
+        let edges = edges(&self.day, window);
         scan(&self.slots[..self.count], series, edges).values()
     }
 
     fn day(&self) -> Day {
-        self.day.day()
+        self.day
     }
 
     fn capacity(&self) -> u16 {
