@@ -6,11 +6,9 @@ ghost use Rattle.book.specs.Windows.{edges};
 ghost use Rattle.board.specs.Cells.{cell, place};
 
 use book::days::Day;
-use book::entries::Entry;
+use book::entries::{Entry, SERIES};
 use book::marks::Figures;
 use book::windows::edges;
-
-const SERIES: u8 = 32;
 
 const WINDOWS: u8 = 13;
 

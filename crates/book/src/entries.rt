@@ -10,7 +10,8 @@ const SPREAD_LIMIT: i64 = 100_000_000;
 
 const LOTS_LIMIT: i64 = 100_000;
 
-const LAST_SERIES: i64 = 31;
+// Series are numbered from 0, and there are no more.
+pub const SERIES: u8 = 32;
 
 // Prices and differences are whole numbers of points, a point being one thousandth.
 #[derive(Clone, Copy, PartialEq, Eq, Debug)]
@@ -85,7 +86,7 @@ pub fn is_allowed(day: &Day, entry: &Entry) -> bool
     ensures { result ≡ allowed day.now entry.now }
 {
     // Joined by `&`: with `&&` in three parts the goal stays open.
-    let series = (0..=LAST_SERIES).contains(&entry.series);
+    let series = (0..i64::from(SERIES)).contains(&entry.series);
     let stamp = (day.night..=day.close).contains(&entry.stamp);
     series & stamp & is_kind_lawful(entry.kind)
 }

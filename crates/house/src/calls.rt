@@ -12,19 +12,16 @@ use crate::series::{Ruling, Series};
 use crate::terms::{Listing, Terms, follows};
 use book::books::Book;
 use book::days::Day;
-use book::entries::{Entry, Kind, is_allowed, is_price, is_side};
+use book::entries::{Entry, Kind, SERIES, is_allowed, is_price, is_side};
 use book::faults::BookFault;
 use ladders::rounding::is_lawful;
 use ladders::sets::LadderSet;
 use rows::families::Family;
 
-// A house lists no more series.
-const MOST_SERIES: u8 = 32;
-
 fn has_room(count: u8) -> bool
     ensures { result ≡ nat_lt count 32 }
 {
-    count < MOST_SERIES
+    count < SERIES
 }
 
 // A spread is for a series that follows another.
