@@ -65,6 +65,7 @@ pub(crate) fn number_under(v: i64, count: u8) -> Option<u8>
 fn is_lawful_reference(family: Family, n: u8, reference: Option<i64>) -> bool
     ensures { result ≡ lawful_reference family n reference }
 {
+    // A match and no `map_or`: each arm is a rule of its own.
     match reference {
         Some(r) => may_refer(family) & (0..i64::from(n)).contains(&r),
         None => !must_refer(family),

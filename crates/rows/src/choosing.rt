@@ -33,7 +33,7 @@ pub fn choose(family: Family, marks: Marks, edition: Edition) -> Choice
             }
         }
         Edition::Morning => {
-            if marks.quarter_end & matches!(family, Family::NearOption) {
+            if marks.quarter_end & (family == Family::NearOption) {
                 Choice::QuarterEnd
             } else {
                 Choice::Morning
