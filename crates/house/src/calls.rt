@@ -34,51 +34,8 @@ fn may_have(family: Family, kind: Kind) -> bool
     }
 }
 
-// A side of a quote is on its ladder, or is missing.
-fn is_side_lawful<L: LadderSet>(set: &L, ladder: u8, side: Option<i64>) -> bool
-    ensures { result ≡ side_on_ladder (L.lawful set.now ladder) side }
-{
-    side.is_none_or(|price| is_lawful(set, ladder, price))
-}
-
-// Whether the prices of an entry are on the ladder.
-fn is_on_ladder<L: LadderSet>(set: &L, ladder: u8, kind: Kind) -> bool
-    ensures { result ≡ kind_on_ladder (L.lawful set.now ladder) kind }
-{
-    match kind {
-        // The kit's checker refuses an or-pattern that binds the price, so the three kinds stand one by one.
-        Kind::Trade { price, .. } => is_lawful(set, ladder, price),
-        Kind::Auction { price, .. } => is_lawful(set, ladder, price),
-        Kind::Leg { price, .. } => is_lawful(set, ladder, price),
-        Kind::Spread { .. } => true,
-        Kind::Quote { bid, ask } => {
-            is_side_lawful(set, ladder, bid) & is_side_lawful(set, ladder, ask)
-        }
-    }
-}
-
-// What the day and the terms of its series demand of an entry.
-fn check_entry<L: LadderSet>(
-    set: &L,
-    day: &Day,
-    entry: &Entry,
-    terms: &Terms,
-) -> Result<(), HouseFault>
-    ensures { result ≡ entry_check (L.lawful set.now) day.now entry.now terms.now }
-{
-    if !is_allowed(day, entry) {
-        return Err(BookFault::BeyondLimits.into());
-    }
-    if !may_have(terms.family, entry.kind) {
-        return Err(HouseFault::SpreadNotFollowing);
-    }
-    if !is_on_ladder(set, terms.ladder, entry.kind) {
-        return Err(HouseFault::OffLadder);
-    }
-    Ok(())
-}
-
-// A ruling that is cleared has no first mark.
+// A ruling that is cleared has no first mark. Value and mark stand apart, here and below, since a cleared ruling with a mark comes
+// in too, and is refused.
 fn may_rule(value: Option<i64>, first: bool) -> bool
     ensures { result ≡ may_rule value first }
 {
@@ -145,6 +102,46 @@ impl<L: LadderSet> House<L> {
         Ok(())
     }
 
+    // A side of a quote is on its ladder, or is missing.
+    fn is_side_lawful(&self, ladder: u8, side: Option<i64>) -> bool
+        ensures { result ≡ side_on_ladder (L.lawful self.now.set ladder) side }
+    {
+        side.is_none_or(|price| is_lawful(&self.set, ladder, price))
+    }
+
+    // Whether the prices of an entry are on the ladder.
+    fn is_on_ladder(&self, ladder: u8, kind: Kind) -> bool
+        ensures { result ≡ kind_on_ladder (L.lawful self.now.set ladder) kind }
+    {
+        match kind {
+            // Three arms of one body: an or-pattern gets no proof where it binds an `i64`, which the prover then takes for
+            // unsigned.
+            Kind::Trade { price, .. } => is_lawful(&self.set, ladder, price),
+            Kind::Auction { price, .. } => is_lawful(&self.set, ladder, price),
+            Kind::Leg { price, .. } => is_lawful(&self.set, ladder, price),
+            Kind::Spread { .. } => true,
+            Kind::Quote { bid, ask } => {
+                self.is_side_lawful(ladder, bid) && self.is_side_lawful(ladder, ask)
+            }
+        }
+    }
+
+    // What the day and the terms of its series demand of an entry.
+    fn check_entry(&self, day: &Day, entry: &Entry, terms: &Terms) -> Result<(), HouseFault>
+        ensures { result ≡ entry_check (L.lawful self.now.set) day.now entry.now terms.now }
+    {
+        if !is_allowed(day, entry) {
+            return Err(BookFault::BeyondLimits.into());
+        }
+        if !may_have(terms.family, entry.kind) {
+            return Err(HouseFault::SpreadNotFollowing);
+        }
+        if !self.is_on_ladder(terms.ladder, entry.kind) {
+            return Err(HouseFault::OffLadder);
+        }
+        Ok(())
+    }
+
     // Whether the house lets the entry go to a book of the day.
     fn pass(&self, day: &Day, entry: &Entry) -> Result<(), HouseFault>
         ensures { result ≡ entry_passed (L.lawful self.now.set) day.now entry.now (state self.now) }
@@ -153,7 +150,7 @@ impl<L: LadderSet> House<L> {
             return Err(HouseFault::WrongPhase);
         }
         let series = self.listed.series(entry.series)?;
-        check_entry(&self.set, day, entry, &series.terms)
+        self.check_entry(day, entry, &series.terms)
     }
 
     // Enters an entry into the book.

@@ -33,7 +33,7 @@ pub(crate) struct Question<'a, L, B> {
     ghost reach: { InReachBefore number (price_of reference) } by { Prim.hlevel props },
 }
 
-// By hand, since a derive would ask that ladders and books can be copied.
+// So that a question may be let go. By hand, since a derive, of `Drop` too, would ask the same of ladders and books.
 impl<L, B> Copy for Question<'_, L, B> {}
 
 impl<L, B> Clone for Question<'_, L, B> {
@@ -79,10 +79,7 @@ pub(crate) fn price_of(reference: Option<Answer>) -> Option<i64>
 fn origin_of(number: u8, reference: Option<Answer>) -> u8
     ensures { result ≡ origin_of number reference }
 {
-    match reference {
-        Some(Err(origin)) => origin,
-        _ => number,
-    }
+    reference.and_then(Result::err).unwrap_or(number)
 }
 
 impl<L: LadderSet, B: Book> Question<'_, L, B> {
@@ -112,6 +109,7 @@ impl<L: LadderSet, B: Book> Question<'_, L, B> {
         ensures value { result ≡ first_found (found (L.LadderSet.lawful self.now.set.now) (price_of self.now.reference) (station_of self.now.number self.now.series (B.Book.meaning self.now.book.now))) 1 (row_of self.now.series self.now.edition) }
         ensures reach { FoundInReach self.now.number result }
     {
+        // A loop, since it ends at an empty place as well as at a price; the position is told with the price.
         let places = self.places();
         for (position, place) in places.iter().enumerate() {
             let place = (*place)?;
@@ -148,7 +146,7 @@ impl<L: LadderSet, B: Book> Question<'_, L, B> {
         ensures value { result ≡ by_row (L.LadderSet.lawful self.now.set.now) self.now.edition (station_of self.now.number self.now.series (B.Book.meaning self.now.book.now)) self.now.reference }
         ensures reach { AnswerInReach self.now.number result }
     {
-        self.first_found().ok_or(self.origin())
+        self.first_found().ok_or_else(|| self.origin())
     }
 
     // The answer: a ruling with the first mark comes before the row.
