@@ -92,10 +92,3 @@ minus_none f ds m none (negsuc n) h e =
 pub minus_zero : (f ds : List ℕ) (z : ℕ) → f ≡ 45 ∷ ds → ds ≡ decimal z → z ≡ 0 → (v : ℤ) → nat_abs v < 10 ^ 10 → f ≡ signed_decimal v → ⊥
 minus_zero f ds z m w o =
     minus_none f ds m (λ n l h e. omega (arith, decimal_injective z n (omega arith) (omega arith) (sym w ∙ e)))
-
-negative : (n : ℕ) → n < 10 ^ 10 → to_z w64 (of_z w64 (pos 0 -ℤ to_z w64 (suc n))) ≡ negsuc n
-negative n h = omega (arith, ints)
-
-pub minus_some : (f ds : List ℕ) (n : ℕ) → f ≡ 45 ∷ ds → (n ≡ 0 → ⊥) → n < 10 ^ 10 → ds ≡ decimal n → (nat_abs (to_z w64 (of_z w64 (pos 0 -ℤ to_z w64 n))) < 10 ^ 10) × (f ≡ signed_decimal (to_z w64 (of_z w64 (pos 0 -ℤ to_z w64 n))))
-minus_some f ds zero m z h e = absurd (z refl)
-minus_some f ds (suc n) m z h e = rw (negative n (omega arith)) (h, m ∙ ap (λ xs. 45 ∷ xs) e)

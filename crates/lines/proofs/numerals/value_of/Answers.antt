@@ -21,8 +21,3 @@ pub loop-byte-preserved : goal.loop-byte-preserved
 loop-byte-preserved c =
     digit_step c.args.digits.now c.loop-byte.byte-index c.loop-byte.n c.from.result c.loop-byte-test.true
     c.loop-byte.invariant.0 c.loop-byte.invariant.1 (search rules) (search rules)
-
-pub returns : goal.returns
-returns c =
-    to_end c.args.digits.now c.loop-byte.byte-index c.loop-byte.n c.loop-byte-test.false c.loop-byte.invariant.0
-    c.loop-byte.invariant.1
