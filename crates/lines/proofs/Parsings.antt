@@ -1,5 +1,5 @@
 -- What parsing a line comes to, by what was read of its first field and of the others.
-use Rattle.std.proofs.Common.{◌≡◌, ℕ, ◌+◌, ◌<◌, ◌≤◌, List, [], ◌∷◌, ◌++◌, length, Ok, Err, Result, sym, refl, ap, ◌∙◌, inl, inr, arith}
+use Rattle.std.proofs.Common.{◌≡◌, ℕ, ◌+◌, ◌<◌, ◌≤◌, List, [], ◌∷◌, ◌++◌, length, Ok, Err, Result, sym, refl, ap, ◌∙◌, inl, arith}
 use Rattle.house.specs.declared.phases.Bell.TheVariants as bells
 use Rattle.runs.specs.declared.calls.Call.TheVariants as calls
 use Rattle.lines.specs.declared.calls.LineCall.{LineCall}

@@ -1,5 +1,5 @@
 use Rattle.std.proofs.Common.{◌<◌, rules}
-use Rattle.lines.proofs.Numbers.{digit_step, not_digits, so_far, to_end}
+use Rattle.lines.proofs.Numbers.{digit_step, not_digits, so_far}
 use Rattle.lines.proofs.numerals.value_of.Goals as goal
 
 pub returns-in_default : goal.returns-in_default
