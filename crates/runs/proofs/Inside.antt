@@ -1,6 +1,7 @@
 -- What a lawful station rounds lies inside the price limit.
-use Rattle.std.proofs.Common.{◌≡◌, ℕ, ◌*◌, ◌≤◌, Bool, true, false, ◌&&◌, ltb, leb, ℤ, pos, negsuc, ◌+ℤ◌, ◌*ℤ◌, nat_abs, ◌≤ℤ◌, refl, ap, ◌∙◌, arith}
+use Rattle.std.proofs.Common.{◌≡◌, ℕ, ◌*◌, ◌≤◌, true, ◌&&◌, ltb, leb, ℤ, pos, negsuc, ◌+ℤ◌, ◌*ℤ◌, nat_abs, ◌≤ℤ◌, ap, ◌∙◌, arith}
 use lib.Signed.{le_z}
+use Rattle.std.proofs.Math.Bool.{and-true}
 use Rattle.std.proofs.lemmas.Int.{ints}
 use Rattle.std.proofs.lemmas.Bool.{and_from, and_parts, leb-true}
 use Rattle.book.specs.Bounds.{bounded, sides_if, spread_if, sums_within}
@@ -49,11 +50,7 @@ lots_kept k v h =
 within_lots : (m : ℤ) (d : ℕ) → nat_abs m ≤ d * 1000000000 → inside m d ≡ ltb 0 d
 within_lots m d h =
     ap (λ t. ltb 0 d && t) (and_from (le_z (negsuc 999999999 *ℤ pos d) m) (le_z m (pos 1000000000 *ℤ pos d)) (grind (arith, ints)) (grind (arith, ints)))
-    ∙ and_true (ltb 0 d)
-  where
-    and_true : (b : Bool) → (b && true) ≡ b
-    and_true true = refl
-    and_true false = refl
+    ∙ and-true (ltb 0 d)
 
 -- there is an average wherever there are lots
 pub average_inside : (k : ℕ) (v : Values) → bounded k v ≡ true → inside v.money (nat_abs v.lots) ≡ ltb 0 (nat_abs v.lots)
