@@ -1,9 +1,8 @@
 -- Series in the places of a list.
-use Rattle.std.proofs.Common.{◌≡◌, ℕ, ◌<◌, ◌≤◌, true, ◌&&◌, eqb, List, length, get_or, set, replicate, ℤ, Option, sym, ap, ◌∙◌, ⊎_elim, arith}
+use Rattle.std.proofs.Common.{◌≡◌, ℕ, ◌<◌, ◌≤◌, true, ◌&&◌, List, length, get_or, set, replicate, ℤ, Option, ap, ◌∙◌, ⊎_elim, arith}
 use Rattle.std.proofs.lemmas.List.{get_or_past, get_or-replicate, get_or-set_other, get_or-set_same, length-replicate}
-use Rattle.std.proofs.lemmas.Bool.{and_from, and_parts, cases_eq, cases_lt, cond-false, cond-true, eq-eqb, ne_eqb}
+use Rattle.std.proofs.lemmas.Bool.{and_from, and_parts, cases_eq, cases_lt}
 use Rattle.book.specs.Entries.{side_lawful}
-use Rattle.house.specs.Rolls.{placed}
 use Rattle.house.specs.Series.{blank, integer_if, lawful_ruling, lawful_series}
 use Rattle.house.specs.Terms.{lawful_terms}
 use Rattle.house.specs.declared.series.Ruling.{Ruling}
@@ -16,14 +15,6 @@ all_blank k n =
     (λ l. get_or-replicate k n blank blank l)
     (λ l. let long = length-replicate k blank in get_or_past (replicate k blank) n blank (omega arith))
     (cases_lt n k)
-
--- a place that is written, and all others
-pub slot_set : (slots : List Series) (k : ℕ) (s : Series) → k < length slots → (n : ℕ) → get_or (set slots k s) n blank ≡ placed k s (λ m. get_or slots m blank) n
-slot_set slots k s h n =
-    ⊎_elim
-    (λ e. ap (λ m. get_or (set slots k s) m blank) e ∙ get_or-set_same slots k s blank h ∙ sym (cond-true (eqb n k) s (get_or slots n blank) (eq-eqb n k e)))
-    (λ o. get_or-set_other slots k n s blank o ∙ sym (cond-false (eqb n k) s (get_or slots n blank) (ne_eqb n k o)))
-    (cases_eq n k)
 
 pub lawful_set : (slots : List Series) (k : ℕ) (s : Series) → k < length slots → ((n : ℕ) → lawful_series n (get_or slots n blank) ≡ true) → lawful_series k s ≡ true → (n : ℕ) → lawful_series n (get_or (set slots k s) n blank) ≡ true
 lawful_set slots k s h all one n =
