@@ -1,5 +1,5 @@
 use Rattle.std.proofs.Common.{◌<◌, rules}
-use Rattle.lines.proofs.Numbers.{digit_step, not_digits, so_far, to_end}
+use Rattle.lines.proofs.Numbers.{digit_step, not_digits, so_far}
 use Rattle.lines.proofs.numerals.value_of.Goals as goal
 
 pub returns-in_default : goal.returns-in_default
@@ -21,8 +21,3 @@ pub loop-byte-preserved : goal.loop-byte-preserved
 loop-byte-preserved c =
     digit_step c.args.digits.now c.loop-byte.byte-index c.loop-byte.n c.from.result c.loop-byte-test.true
     c.loop-byte.invariant.0 c.loop-byte.invariant.1 (search rules) (search rules)
-
-pub returns : goal.returns
-returns c =
-    to_end c.args.digits.now c.loop-byte.byte-index c.loop-byte.n c.loop-byte-test.false c.loop-byte.invariant.0
-    c.loop-byte.invariant.1
