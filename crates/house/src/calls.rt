@@ -49,6 +49,8 @@ fn ruling_of(value: Option<i64>, first: bool) -> Option<Ruling>
     value.map(|value| Ruling { value, first })
 }
 
+// Each call that changes the house says in a clause `set` that its ladders stay: of a model of the house every clause would name
+// both parts as well.
 impl<L: LadderSet> House<L> {
     // A new house over a ladder set: listing, with no series.
     pub fn new(set: L) -> House<L>

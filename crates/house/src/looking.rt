@@ -3,6 +3,7 @@ ghost use Rattle.std.specs.Prelude.{◌≡◌, ◌≤◌, true, unsigned_abs};
 ghost use Rattle.book.specs.Bounds.{bounded, spread_if};
 ghost use Rattle.house.specs.Answers.{price_of};
 ghost use Rattle.house.specs.Found.{above_theory, average, finds, less, nearest_theory, quoted};
+ghost use Rattle.house.specs.Reach.{InReachBefore};
 ghost use Rattle.ladders.specs.Values.{nearest_price};
 
 use crate::settling::{Question, price_of};
@@ -11,6 +12,16 @@ use book::marks::{Sides, Values};
 use ladders::rounding::nearest;
 use ladders::sets::LadderSet;
 use rows::steps::Step;
+
+// The reference's price less a spread: near month less far month, so that the far month is the near less the spread. No method,
+// since a proof has of a parameter that it fits 8 bits, and of a field has not.
+fn less(number: u8, reference: Option<i64>, spread: Option<i64>) -> Option<i64>
+    requires reference { InReachBefore number reference }
+    requires spread { spread_if spread ≡ true }
+    ensures { result ≡ less reference spread }
+{
+    Some(reference? - spread?)
+}
 
 impl<L: LadderSet, B: Book> Question<'_, L, B> {
     // The lawful price closest to a fraction, on the ladder of the series.
@@ -49,20 +60,13 @@ impl<L: LadderSet, B: Book> Question<'_, L, B> {
             .above(self.series.terms.ladder, self.series.theory?)
     }
 
-    // The reference's price less a spread: near month less far month, so that the far month is the near less the spread.
-    fn less(&self, spread: Option<i64>) -> Option<i64>
-        requires { spread_if spread ≡ true }
-        ensures { result ≡ less (price_of self.now.reference) spread }
-    {
-        Some(price_of(self.reference)? - spread?)
-    }
-
     // What a step finds, with the figures of the step's window.
     pub(crate) fn find(&self, values: &Values, step: Step) -> Option<i64>
         requires { bounded 30000 values.now ≡ true }
         ensures { result ≡ finds (L.LadderSet.lawful self.now.set.now self.now.series.terms.ladder) (price_of self.now.reference) self.now.series values.now step }
     {
         let series = &self.series;
+        let reference = price_of(self.reference);
         // A match, and no table of functions: the steps are closed, and look at different things.
         match step {
             Step::Auction => values.auction.map(i64::from),
@@ -71,9 +75,9 @@ impl<L: LadderSet, B: Book> Question<'_, L, B> {
             Step::Average => self.average(values.money, values.lots),
             Step::Theory => self.nearest_theory(),
             Step::TheoryUp => self.above_theory(),
-            Step::Spread => self.less(values.spread.map(i64::from)),
-            Step::PreviousSpread => self.less(series.terms.spread),
-            Step::Copy => price_of(self.reference),
+            Step::Spread => less(self.number, reference, values.spread.map(i64::from)),
+            Step::PreviousSpread => less(self.number, reference, series.terms.spread),
+            Step::Copy => reference,
             Step::Previous => series.terms.settlement,
             Step::Ruling => series.ruling.map(|ruling| ruling.value),
         }

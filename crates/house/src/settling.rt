@@ -2,7 +2,7 @@
 ghost use Rattle.std.specs.Prelude.{◌≡◌, ℕ, ◌+◌, ◌<◌, true, None, slice_index_or};
 ghost use Rattle.std.proofs.Props.{props};
 ghost use Rattle.rows.specs.Codes.{at};
-ghost use Rattle.house.specs.Answers.{answered, by_row, first_found, origin, origin_of, price_of, refers, row_of, some_refers, station_of};
+ghost use Rattle.house.specs.Answers.{answered, by_row, first_found, origin, origin_of, price_of, refers, row_of, some_refers};
 ghost use Rattle.house.specs.Found.{found};
 ghost use Rattle.house.specs.Reach.{AnswerInReach, FoundInReach, InReach, InReachBefore};
 ghost use Rattle.house.specs.Series.{lawful_series};
@@ -83,6 +83,8 @@ fn origin_of(number: u8, reference: Option<Answer>) -> u8
 }
 
 impl<L: LadderSet, B: Book> Question<'_, L, B> {
+    ghost use Rattle.house.specs.Asked.{station_in};
+
     // The places of the row by which the series is settled.
     fn places(&self) -> [Option<Place>; 6]
         ensures { (k : ℕ) → slice_index_or result k None ≡ at (row_of self.now.series self.now.edition) k }
@@ -96,7 +98,7 @@ impl<L: LadderSet, B: Book> Question<'_, L, B> {
 
     // What a place of the row finds.
     fn look(&self, place: Place) -> Option<i64>
-        ensures value { result ≡ found (L.LadderSet.lawful self.now.set.now) (price_of self.now.reference) (station_of self.now.number self.now.series (B.Book.meaning self.now.book.now)) place }
+        ensures value { result ≡ found (L.LadderSet.lawful self.now.set.now) (price_of self.now.reference) (station_in B.Book.meaning self.now) place }
         ensures reach { InReach self.now.number result }
     {
         // A step that looks in no window reads none of the figures; no window is numbered 0.
@@ -106,7 +108,7 @@ impl<L: LadderSet, B: Book> Question<'_, L, B> {
 
     // The first place of the row that finds a price.
     fn first_found(&self) -> Option<Settlement>
-        ensures value { result ≡ first_found (found (L.LadderSet.lawful self.now.set.now) (price_of self.now.reference) (station_of self.now.number self.now.series (B.Book.meaning self.now.book.now))) 1 (row_of self.now.series self.now.edition) }
+        ensures value { result ≡ first_found (found (L.LadderSet.lawful self.now.set.now) (price_of self.now.reference) (station_in B.Book.meaning self.now)) 1 (row_of self.now.series self.now.edition) }
         ensures reach { FoundInReach self.now.number result }
     {
         // A loop, since it ends at an empty place as well as at a price; the position is told with the price.
@@ -132,7 +134,7 @@ impl<L: LadderSet, B: Book> Question<'_, L, B> {
 
     // Where a refusal of the series comes from: from its reference only if a step of its row uses it.
     fn origin(&self) -> u8
-        ensures { result ≡ origin self.now.edition (station_of self.now.number self.now.series (B.Book.meaning self.now.book.now)) self.now.reference }
+        ensures { result ≡ origin self.now.edition (station_in B.Book.meaning self.now) self.now.reference }
     {
         if self.some_refers() {
             origin_of(self.number, self.reference)
@@ -143,15 +145,19 @@ impl<L: LadderSet, B: Book> Question<'_, L, B> {
 
     // By the row: the first place that finds a price, or the origin of the refusal.
     fn by_row(&self) -> Answer
-        ensures value { result ≡ by_row (L.LadderSet.lawful self.now.set.now) self.now.edition (station_of self.now.number self.now.series (B.Book.meaning self.now.book.now)) self.now.reference }
+        ensures value { result ≡ by_row (L.LadderSet.lawful self.now.set.now) self.now.edition (station_in B.Book.meaning self.now) self.now.reference }
         ensures reach { AnswerInReach self.now.number result }
     {
-        self.first_found().ok_or_else(|| self.origin())
+        // A match: of an `ok_or_else` the proof has too little of what its closure gives.
+        match self.first_found() {
+            Some(settlement) => Ok(settlement),
+            None => Err(self.origin()),
+        }
     }
 
     // The answer: a ruling with the first mark comes before the row.
     pub(crate) fn answer(&self) -> Answer
-        ensures value { result ≡ answered (L.LadderSet.lawful self.now.set.now) self.now.edition (station_of self.now.number self.now.series (B.Book.meaning self.now.book.now)) self.now.reference }
+        ensures value { result ≡ answered (L.LadderSet.lawful self.now.set.now) self.now.edition (station_in B.Book.meaning self.now) self.now.reference }
         ensures reach { AnswerInReach self.now.number result }
     {
         match self.series.ruling {

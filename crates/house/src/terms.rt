@@ -1,5 +1,6 @@
 // What is agreed of a series when it is listed.
-ghost use Rattle.std.specs.Prelude.{◌≡◌, if◌then◌else◌, Some, None, Ok, Err, unsigned_abs};
+ghost use Rattle.std.specs.Prelude.{◌≡◌, ◌&&◌, if◌then◌else◌, Some, None, Ok, Err, unsigned_abs};
+ghost use Rattle.book.specs.Entries.{side_lawful};
 ghost use Rattle.house.specs.Terms.{checked, follows, is_ladder, lawful_reference, lawful_spread, may_refer, must_refer, natural_if};
 ghost use Rattle.house.specs.declared.faults.HouseFault.TheVariants.{TermsNotLawful};
 
@@ -87,6 +88,13 @@ fn is_lawful_spread(family: Family, spread: Option<i64>) -> bool
 }
 
 impl Listing {
+    // Whether a series of the family may have the previous settlement and the previous spread.
+    fn has_lawful_previous(&self, family: Family) -> bool
+        ensures { result ≡ (side_lawful self.now.settlement && lawful_spread family self.now.spread) }
+    {
+        is_side(self.settlement) && is_lawful_spread(family, self.spread)
+    }
+
     // The terms of the series numbered n, over a set of so many ladders, if they are lawful as a whole.
     pub(crate) fn checked(&self, n: u8, ladders: u8) -> Result<Terms, HouseFault>
         ensures { result ≡ checked n ladders self.now }
@@ -94,7 +102,7 @@ impl Listing {
         let family = Family::try_from(self.family)?;
         let ladder = number_under(self.ladder, ladders).ok_or(HouseFault::TermsNotLawful)?;
         let reference = checked_reference(family, n, self.reference)?;
-        if !(is_side(self.settlement) && is_lawful_spread(family, self.spread)) {
+        if !self.has_lawful_previous(family) {
             return Err(HouseFault::TermsNotLawful);
         }
         Ok(Terms {

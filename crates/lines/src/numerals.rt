@@ -11,6 +11,7 @@ fn value_of(digits: &[u8]) -> Option<u64>
     requires { length digits.now ≤ 10 }
     ensures { Valued digits.now result }
 {
+    // A loop, since it ends early and each byte is first told by its class: a `try_fold` would be no plainer.
     let mut n = 0;
     for byte in digits {
         let ByteClass::Digit(d) = class_of(*byte) else {

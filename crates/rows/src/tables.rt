@@ -173,7 +173,7 @@ fn decode(code: u8) -> Option<Place>
     })
 }
 
-// The places of a row, with nothing past its end.
+// The places of a row, with nothing past its end. An array, since nothing here allocates.
 pub fn places(family: Family, choice: Choice) -> [Option<Place>; 6]
     ensures value { (k : ℕ) → slice_index_or result k None ≡ at (row family choice) k }
     ensures lawful { RowLawful (row family choice) }

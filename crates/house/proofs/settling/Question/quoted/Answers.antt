@@ -1,11 +1,12 @@
 use Rattle.std.proofs.Common.{◌≡◌, ◌+ℤ◌, Some, sym, ap, ◌∙◌, rules}
 use Rattle.ladders.specs.Values.{nearest_price}
 use Rattle.house.specs.Found.{middle, quoted}
-use Rattle.house.proofs.looking.quoted.Goals as goal
+use Rattle.house.proofs.settling.Question.quoted.Goals as goal
 
 pub returns : goal.returns
 returns g c =
-    let P = g.L.LadderSet.lawful c.args.set.now c.args.ladder in
+    let a = c.args.self.now in
+    let P = g.L.LadderSet.lawful a.set.now a.series.terms.ladder in
     let bid = c.in_ok-bid-2.field-0 in
     let ask = c.in_ok-ask.field-0 in
     let said : c.nearest.result ≡ nearest_price P (bid +ℤ ask) 2 = search rules in
