@@ -1,18 +1,15 @@
 -- What a lawful station rounds lies inside the price limit.
-use Rattle.std.proofs.Common.{◌≡◌, ℕ, ◌*◌, ◌≤◌, true, ◌&&◌, ltb, leb, ℤ, pos, negsuc, ◌+ℤ◌, ◌*ℤ◌, nat_abs, ◌≤ℤ◌, ap, ◌∙◌, arith}
+use Rattle.std.proofs.Common.{◌≡◌, ℕ, ◌*◌, ◌≤◌, true, ◌&&◌, ltb, ℤ, pos, negsuc, ◌+ℤ◌, ◌*ℤ◌, nat_abs, ap, ◌∙◌, arith}
 use lib.Signed.{le_z}
 use Rattle.std.proofs.Math.Bool.{and-true}
 use Rattle.std.proofs.lemmas.Int.{ints}
-use Rattle.std.proofs.lemmas.Bool.{and_from, and_parts, leb-true}
-use Rattle.book.specs.Bounds.{bounded, sides_if, spread_if, sums_within}
-use Rattle.book.specs.Entries.{price_lawful, side_lawful}
+use Rattle.std.proofs.lemmas.Bool.{and_from}
+use Rattle.book.specs.Bounds.{bounded}
+use Rattle.book.specs.Entries.{price_lawful}
 use Rattle.book.specs.declared.marks.Values.{Values}
 use Rattle.book.proofs.Growth.{parts}
 use Rattle.ladders.specs.Fractions.{inside}
-use Rattle.ladders.specs.Orders.{le_from_test, within_range}
-use Rattle.house.specs.Series.{integer_if, lawful_ruling, lawful_series}
-use Rattle.house.specs.Terms.{lawful_terms}
-use Rattle.house.specs.declared.series.Series.{Series}
+use Rattle.ladders.specs.Orders.{within_range}
 
 -- ---- a price, and the middle of two, is inside
 

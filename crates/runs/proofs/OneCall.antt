@@ -3,7 +3,7 @@ use Rattle.std.proofs.Common.{◌≡◌, ℕ, ◌+◌, ◌<◌, ◌≤◌, Bool,
 use lib.Signed.{le_z}
 use Rattle.std.proofs.lemmas.List.{append-nil, get_or_append_left, get_or_past, get_or_push, flat_map_more, length_push}
 use Rattle.std.proofs.lemmas.List.Sums.{fold_push}
-use Rattle.std.proofs.lemmas.Bool.{and_from, and_parts, cases_eq, cases_lt, cond_both, cond-false, cond-true, eq-eqb, ltb-true, ne_eqb, true≢false}
+use Rattle.std.proofs.lemmas.Bool.{and_parts, cases_eq, cases_lt, cond_both, cond-false, cond-true, eq-eqb, ltb-true, ne_eqb, true≢false}
 use Rattle.book.specs.Entries.{allowed, side_lawful}
 use Rattle.book.specs.Figures.{is_series}
 use Rattle.book.specs.Ledgers.{Ledger, answer, grown}
