@@ -32,3 +32,6 @@ lawful_theory n s theory h k = let both = and_parts _ _ h in and_from _ _ both.0
 
 pub lawful_ruled : (n : ℕ) (s : Series) (ruling : Option Ruling) → lawful_series n s ≡ true → lawful_ruling ruling ≡ true → lawful_series n (record { terms = s.terms; theory = s.theory; ruling = ruling }) ≡ true
 lawful_ruled n s ruling h k = let both = and_parts _ _ h in and_from _ _ both.0 (and_from _ _ (and_parts _ _ both.1).0 k)
+
+-- a supplied value leaves a series lawful
+pub ruleset supplied = (lawful_theory, lawful_ruled)

@@ -1,4 +1,6 @@
 // The calls of the house, up to the question for a price.
+#![tactic(auto, using(crate::proofs::Slots::supplied))]
+
 ghost use Rattle.std.specs.Prelude.{◌≡◌, true, nat_lt};
 ghost use Rattle.house.specs.Calls.{bell_after, bell_answer, entry_after, entry_answer, entry_check, entry_passed, kind_on_ladder, list_after, list_answer, listed_terms, may_have, may_rule, new_state, ruling_after, ruling_answer, ruling_of, side_on_ladder, theory_after, theory_answer};
 ghost use Rattle.house.specs.Series.{lawful_ruling};

@@ -88,3 +88,8 @@ minus_none f ds m none (negsuc n) h e =
 pub minus_zero : (f ds : List ℕ) (z : ℕ) → f ≡ 45 ∷ ds → ds ≡ decimal z → z ≡ 0 → (v : ℤ) → nat_abs v < 10 ^ 10 → f ≡ signed_decimal v → ⊥
 minus_zero f ds z m w o =
     minus_none f ds m (λ n l h e. omega (arith, decimal_injective z n (omega arith) (omega arith) (sym w ∙ e)))
+
+-- what reading digits cites
+pub ruleset numerals = (numbered, too_long, too_short, zero_first, not_digits, so_far)
+
+pub ruleset minus = (minus_front, minus_none)

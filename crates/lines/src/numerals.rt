@@ -1,4 +1,6 @@
 // Numbers as digits.
+#![tactic(auto, using(crate::proofs::Numbers::numerals))]
+
 ghost use Rattle.std.specs.Prelude.{◌≤◌, length};
 ghost use Rattle.lines.specs.Values.{Numbered, Valued};
 

@@ -1,5 +1,5 @@
 // A line read by the values of its command.
-#![tactic(auto, using(crate::proofs::Made::missed_call))]
+#![tactic(auto, using(crate::proofs::Made::missed_call, crate::proofs::Writings::grammar))]
 
 ghost use Rattle.std.specs.Prelude.{◌≡◌};
 ghost use Rattle.lines.specs.Reading.{ReadFrom};
