@@ -1,7 +1,7 @@
 // The calls of the house, up to the question for a price.
 #![tactic(auto, using(crate::proofs::Slots::supplied))]
 
-ghost use Rattle.std.specs.Prelude.{◌≡◌, true, nat_lt};
+ghost use Rattle.std.specs.Prelude.{◌≡◌, IfErr, true, nat_lt};
 ghost use Rattle.house.specs.Calls.{bell_after, bell_answer, entry_after, entry_answer, entry_check, entry_passed, kind_on_ladder, list_after, list_answer, listed_terms, may_have, may_rule, new_state, ruling_after, ruling_answer, ruling_of, side_on_ladder, theory_after, theory_answer};
 ghost use Rattle.house.specs.Series.{lawful_ruling};
 ghost use Rattle.house.specs.Houses.{state};
@@ -84,6 +84,7 @@ impl<L: LadderSet> House<L> {
     pub fn list(&mut self, listing: Listing) -> Result<u8, HouseFault>
         ensures answer { result ≡ list_answer (L.size self.old.set) listing (state self.old) }
         ensures after { state self.new ≡ list_after (L.size self.old.set) listing (state self.old) }
+        ensures refused { IfErr result (λ _. state self.new ≡ state self.old) }
         ensures set { self.new.set ≡ self.old.set }
     {
         let number = self.listed.count();
@@ -96,6 +97,7 @@ impl<L: LadderSet> House<L> {
     pub fn ring(&mut self, bell: Bell) -> Result<(), HouseFault>
         ensures answer { result ≡ bell_answer bell (state self.old) }
         ensures after { state self.new ≡ bell_after bell (state self.old) }
+        ensures refused { IfErr result (λ _. state self.new ≡ state self.old) }
         ensures set { self.new.set ≡ self.old.set }
     {
         match (self.phase, bell) {
@@ -161,6 +163,7 @@ impl<L: LadderSet> House<L> {
     pub fn enter<B: Book>(&self, book: &mut B, entry: Entry) -> Result<(), HouseFault>
         ensures answer { result ≡ entry_answer (L.LadderSet.lawful self.now.set) (B.Book.meaning book.old) entry (state self.now) }
         ensures after { B.Book.meaning book.new ≡ entry_after (L.LadderSet.lawful self.now.set) entry (state self.now) (B.Book.meaning book.old) }
+        ensures refused { IfErr result (λ _. B.Book.meaning book.new ≡ B.Book.meaning book.old) }
     {
         self.pass(&book.day(), &entry)?;
         book.take(entry)?;
@@ -171,6 +174,7 @@ impl<L: LadderSet> House<L> {
     pub fn set_theory(&mut self, series: i64, value: Option<i64>) -> Result<(), HouseFault>
         ensures answer { result ≡ theory_answer series value (state self.old) }
         ensures after { state self.new ≡ theory_after series value (state self.old) }
+        ensures refused { IfErr result (λ _. state self.new ≡ state self.old) }
         ensures set { self.new.set ≡ self.old.set }
     {
         let number = self.listed.find(series)?;
@@ -192,6 +196,7 @@ impl<L: LadderSet> House<L> {
     ) -> Result<(), HouseFault>
         ensures answer { result ≡ ruling_answer series value first (state self.old) }
         ensures after { state self.new ≡ ruling_after series value first (state self.old) }
+        ensures refused { IfErr result (λ _. state self.new ≡ state self.old) }
         ensures set { self.new.set ≡ self.old.set }
     {
         let number = self.listed.find(series)?;

@@ -1,10 +1,11 @@
 -- The rules of rows: one test, computed over all rows, and carried to each.
-use Rattle.std.proofs.Common.{◌≡◌, ℕ, zero, suc, ◌≤◌, Bool, true, false, not, ◌&&◌, eqb, leb, List, [], ◌∷◌, length, Some, None, Option, sym, refl, ap, ◌∙◌, subst, arith}
+use Rattle.std.proofs.Common.{◌≡◌, ℕ, zero, suc, ◌-◌, ◌<◌, ◌≤◌, Bool, true, false, not, ◌&&◌, eqb, leb, List, [], ◌∷◌, length, get_or, Some, None, Option, sym, refl, ap, ◌∙◌, subst, arith}
 use Rattle.std.proofs.lemmas.List.Sums.{AllPass-from_list_all}
 use Rattle.std.proofs.lemmas.Option.{none-some}
 use Rattle.std.specs.List.{list_all, list_any}
 use Rattle.std.proofs.lemmas.Bool.{and_parts, or_parts, not-true, leb-true, eq-eqb, true≢false, false≢true}
-use Rattle.rows.specs.Codes.{at, code, choices}
+use Rattle.rows.specs.Codes.{at, code, choices, choice_number}
+use Rattle.rows.specs.Families.{all_families, number}
 use Rattle.rows.specs.RowRules.{looks, Fitting, RowLawful}
 use Rattle.rows.specs.Rows.{row}
 use Rattle.rows.specs.declared.families.Family.{Family}
@@ -88,28 +89,37 @@ lawful ps e =
 
 -- ---- over all rows
 
-four_pass : (f : Family) → list_all (λ c. passes (row f c)) choices ≡ true
-four_pass LongBond = refl
-four_pass FollowingBond = refl
-four_pass OtherBond = refl
-four_pass MiniBond = refl
-four_pass ThreeMonthRate = refl
-four_pass FrontIndex = refl
-four_pass LaterIndex = refl
-four_pass CopiedIndex = refl
-four_pass TheoryIndex = refl
-four_pass ForeignIndex = refl
-four_pass DeliveredCommodity = refl
-four_pass CashCommodity = refl
-four_pass DeliveredGrain = refl
-four_pass NearOption = refl
-four_pass OtherOption = refl
+-- the rules hold of every row of every family, computed at once
+all_pass : list_all (λ f. list_all (λ c. passes (row f c)) choices) all_families ≡ true
+all_pass = refl
 
-each_passes : (f : Family) (c : Choice) → passes (row f c) ≡ true
-each_passes f Close = AllPass-from_list_all (λ c. passes (row f c)) choices (four_pass f) 0 Close (omega arith)
-each_passes f LastDay = AllPass-from_list_all (λ c. passes (row f c)) choices (four_pass f) 1 Close (omega arith)
-each_passes f QuarterEnd = AllPass-from_list_all (λ c. passes (row f c)) choices (four_pass f) 2 Close (omega arith)
-each_passes f Morning = AllPass-from_list_all (λ c. passes (row f c)) choices (four_pass f) 3 Close (omega arith)
+family_at : (f : Family) → (get_or all_families (number f - 1) LongBond ≡ f) × ((1 ≤ number f) × (number f ≤ 15))
+family_at LongBond = (refl, (omega arith, omega arith))
+family_at FollowingBond = (refl, (omega arith, omega arith))
+family_at OtherBond = (refl, (omega arith, omega arith))
+family_at MiniBond = (refl, (omega arith, omega arith))
+family_at ThreeMonthRate = (refl, (omega arith, omega arith))
+family_at FrontIndex = (refl, (omega arith, omega arith))
+family_at LaterIndex = (refl, (omega arith, omega arith))
+family_at CopiedIndex = (refl, (omega arith, omega arith))
+family_at TheoryIndex = (refl, (omega arith, omega arith))
+family_at ForeignIndex = (refl, (omega arith, omega arith))
+family_at DeliveredCommodity = (refl, (omega arith, omega arith))
+family_at CashCommodity = (refl, (omega arith, omega arith))
+family_at DeliveredGrain = (refl, (omega arith, omega arith))
+family_at NearOption = (refl, (omega arith, omega arith))
+family_at OtherOption = (refl, (omega arith, omega arith))
+
+choice_at : (c : Choice) → (get_or choices (choice_number c) Close ≡ c) × (choice_number c < 4)
+choice_at Close = (refl, omega arith)
+choice_at LastDay = (refl, omega arith)
+choice_at QuarterEnd = (refl, omega arith)
+choice_at Morning = (refl, omega arith)
 
 pub row_lawful : (f : Family) (c : Choice) → RowLawful (row f c)
-row_lawful f c = lawful (row f c) (each_passes f c)
+row_lawful f c =
+    let fam = family_at f in
+    let cho = choice_at c in
+    let rows = AllPass-from_list_all (λ g. list_all (λ d. passes (row g d)) choices) all_families all_pass (number f - 1) LongBond (omega arith) in
+    let here = subst (λ (g : Family). list_all (λ d. passes (row g d)) choices ≡ true) fam.0 rows in
+    lawful (row f c) (subst (λ (d : Choice). passes (row f d) ≡ true) cho.0 (AllPass-from_list_all (λ d. passes (row f d)) choices here (choice_number c) Close cho.1))
