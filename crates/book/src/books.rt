@@ -35,7 +35,8 @@ pub trait Book {
         ensures answer { result ≡ answer (meaning self.old) entry }
         ensures after { meaning self.new ≡ after (meaning self.old) entry };
 
-    // The figures of a series and a window; empty outside series 0 to 31 and windows 1 to 13.
+    // The figures of a series and a window; empty outside series 0 to 31 and windows 1 to 13. Raw numbers, since a narrower type
+    // would ask more of callers.
     fn figures(&self, series: u8, window: u8) -> Values
         ensures value { result ≡ values ((meaning self.now).figures series window) }
         ensures bounds { bounded (meaning self.now).count result ≡ true }

@@ -62,10 +62,7 @@ pub fn is_side(side: Option<i64>) -> bool
 fn is_uncrossed(bid: Option<i64>, ask: Option<i64>) -> bool
     ensures { result ≡ uncrossed bid ask }
 {
-    match (bid, ask) {
-        (Some(b), Some(a)) => b < a,
-        _ => true,
-    }
+    bid.zip(ask).is_none_or(|(b, a)| b < a)
 }
 
 pub(crate) fn is_kind_lawful(kind: Kind) -> bool

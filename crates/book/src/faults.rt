@@ -26,6 +26,7 @@ impl DayFault {
     }
 }
 
+// A named method here too.
 impl BookFault {
     pub fn number(self) -> u8
         ensures { result ≡ book_number self }

@@ -23,7 +23,8 @@ use runs::comparing::compare_makes;
 use runs::performing::perform;
 use tape::tapes::Tape;
 
-// A small day: more entries than these find the books full.
+// A small day: more entries than these find the books full. It stands in `figures` too, as BLANK does: the two programs
+// share no crate, and each is to be retired by itself.
 const PLACES: usize = 256;
 
 // The line of the first call, after the day line.
@@ -36,7 +37,8 @@ const BLANK: Entry = Entry {
     kind: Kind::Leg { price: 0, lots: 0 },
 };
 
-// Stepped ladders of one band each, of these ticks, at most four, as a day line has; so no vector is needed.
+// Stepped ladders of one band each, of these ticks, at most four, as a day line has. No plainer with vectors: the slices
+// borrow from the bands, and to allocate can fail, which is no LadderFault.
 fn stepped(ticks: &[i64]) -> Result<SteppedSet, LadderFault> {
     let mut bands = [Band {
         start: None,
@@ -56,17 +58,12 @@ fn sets(ticks: &[i64]) -> Result<(EvenSet, SteppedSet), LadderFault> {
 
 fn read(rt: &HostRuntime) -> anyhow::Result<(Opening, Vec<Call>)> {
     let heap = rt.alloc();
-    let mut opening: Option<Opening> = None;
-    let mut calls: Vec<Call> = Vec::new(heap);
-    for line in rt.lines(heap) {
-        let line = line?;
-        if opening.is_none() {
-            opening = Some(opening_of(heap, line.as_str())?);
-        } else {
-            calls.push(call_of(heap, line.as_str())?)?;
-        }
-    }
-    let opening = opening.ok_or(anyhow!("no day line"))?;
+    let mut lines = rt.lines(heap);
+    let first = lines.next().ok_or_else(|| anyhow!("no day line"))??;
+    let opening = opening_of(heap, first.as_str())?;
+    let calls = lines
+        .map(|line| call_of(heap, line?.as_str()))
+        .try_collect(heap)?;
     Ok((opening, calls))
 }
 
@@ -81,13 +78,12 @@ fn perform_all<L: LadderSet, M: LadderSet, A: Book, B: Book>(
     calls: &[Call],
 ) -> anyhow::Result<i64> {
     let mut listed = 0;
-    for (i, call) in calls.iter().enumerate() {
+    for (line, call) in (FIRST_CALL..).zip(calls) {
         let a = perform(one, board, call);
         let b = perform(other, tape, call);
         if let Ok(Reply::Listed(number)) = a {
             listed = i64::from(number) + 1;
         }
-        let line = i.wrapping_add(FIRST_CALL);
         println!(rt; "{line}: {} | {}", Replied(a), Replied(b))?;
     }
     Ok(listed)

@@ -1,4 +1,5 @@
-// The line form: a command and its fields, with one space between them. A minus alone is a missing number.
+// The line form: a command and its fields, with one space between them. A minus alone is a missing number. Much of it
+// stands in `figures` too: the two programs share no crate, and each is to be retired by itself.
 use anyhow::anyhow;
 use book::days::Day;
 use book::entries::{Entry, Kind};
@@ -15,24 +16,24 @@ pub(crate) struct Opening {
     pub(crate) ticks: Vec<i64>,
 }
 
-fn numbers(heap: Global, fields: &str) -> anyhow::Result<Vec<Option<i64>>> {
-    let mut found = Vec::new(heap);
-    for field in fields.split(' ') {
-        if field == "-" {
-            found.push(None)?;
-        } else {
-            found.push(Some(field.parse::<i64>()?))?;
-        }
+// A number, or a minus.
+fn number_of(field: &str) -> anyhow::Result<Option<i64>> {
+    match field {
+        "-" => Ok(None),
+        _ => Ok(Some(field.parse()?)),
     }
-    Ok(found)
+}
+
+fn numbers(heap: Global, fields: &str) -> anyhow::Result<Vec<Option<i64>>> {
+    fields.split(' ').map(number_of).try_collect(heap)
 }
 
 // One to four ticks.
 fn ticks_of(heap: Global, numbers: &[Option<i64>]) -> anyhow::Result<Vec<i64>> {
-    let mut ticks = Vec::new(heap);
-    for number in numbers {
-        ticks.push(number.ok_or(anyhow!("a tick is missing"))?)?;
-    }
+    let ticks: Vec<i64> = numbers
+        .iter()
+        .map(|number| number.ok_or_else(|| anyhow!("a tick is missing")))
+        .try_collect(heap)?;
     if ticks.is_empty() || ticks.len() > 4 {
         return Err(anyhow!("a day line has one to four ticks"));
     }

@@ -6,7 +6,8 @@ use std::fmt;
 
 pub(crate) type Answer = Result<Settlement, HouseFault>;
 
-// A refusal: its number, and the origin where it has one.
+// A refusal: its number, and the origin where it has one. What is printed of a fault is this program's own, so a newtype
+// here and no Display for HouseFault.
 #[derive(Clone, Copy)]
 struct Refusal(HouseFault);
 

@@ -11,14 +11,18 @@ use anyhow::anyhow;
 use board::boards::Board;
 use book::books::Book;
 use book::days::Day;
-use book::entries::{Entry, Kind};
+use book::entries::{Entry, Kind, SERIES};
 use book::feeds::take_both;
 use book::lawful::LawfulDay;
 use book::marks::Values;
 use tape::tapes::Tape;
 
-// A small day: more entries than these find the books full.
+// A small day: more entries than these find the books full. It stands in `both` too, as BLANK does: the two programs share
+// no crate, and each is to be retired by itself.
 const PLACES: usize = 256;
+
+// The windows are numbered from 1. `board` has the number too, for itself; `book` needs none.
+const WINDOWS: u8 = 13;
 
 // What stands in a place of the tape before it is used.
 const BLANK: Entry = Entry {
@@ -71,8 +75,8 @@ fn compare<A: Book, B: Book>(
 // The figures of every series and window, and whether the books agree in all of them.
 fn compare_all<A: Book, B: Book>(rt: &impl Print, one: &A, other: &B) -> anyhow::Result<bool> {
     let mut all = true;
-    for series in 0..32 {
-        for window in 1..14 {
+    for series in 0..SERIES {
+        for window in 1..=WINDOWS {
             all &= compare(rt, one, other, series, window)?;
         }
     }
@@ -81,9 +85,7 @@ fn compare_all<A: Book, B: Book>(rt: &impl Print, one: &A, other: &B) -> anyhow:
 
 fn run(rt: &HostRuntime) -> anyhow::Result<()> {
     let (day, entries) = read(rt)?;
-    let Some(day) = day else {
-        return Err(anyhow!("no day line"));
-    };
+    let day = day.ok_or_else(|| anyhow!("no day line"))?;
     let lawful = match LawfulDay::new(day) {
         Ok(lawful) => lawful,
         Err(fault) => {

@@ -1,4 +1,5 @@
-// The line form: a command and its numbers, with one space between fields. A minus alone is a missing number.
+// The line form: a command and its numbers, with one space between fields. A minus alone is a missing number. Much of it
+// stands in `both` too: the two programs share no crate, and each is to be retired by itself.
 use anyhow::anyhow;
 use book::days::Day;
 use book::entries::{Entry, Kind};

@@ -2,12 +2,11 @@
 use Rattle.std.proofs.Common.{◌≡◌, ℕ, Bool, true, ◌&&◌, ltb, ℤ, pos, negsuc, nat_abs, Some, None, Ok, Err, Option, Result, sym, refl, ap, ◌∙◌}
 use lib.Signed.{le_z, lt_z}
 use Rattle.std.proofs.lemmas.Bool.{and_from, and_parts, cond_both, true≢false}
-use Rattle.book.specs.Entries.{side_lawful}
 use Rattle.rows.specs.Families.{family_of}
 use Rattle.rows.specs.declared.families.Family.{Family}
 use Rattle.house.specs.Calls.{State, demand, is_listing, listed_terms}
 use Rattle.house.specs.Series.{integer_if, lawful_series, new_series}
-use Rattle.house.specs.Terms.{checked, checked_for, is_ladder, lawful_reference, lawful_spread, lawful_terms, may_refer, natural_if, terms_of}
+use Rattle.house.specs.Terms.{checked, checked_for, is_ladder, lawful_reference, lawful_terms, natural_if, terms_of}
 use Rattle.house.specs.declared.faults.HouseFault.{HouseFault}
 use Rattle.house.specs.declared.faults.HouseFault.TheVariants.{SeriesFull, TermsNotLawful, WrongPhase}
 use Rattle.house.specs.declared.terms.Listing.{Listing}
@@ -20,14 +19,12 @@ kept_number (negsuc n) b h = absurd (true≢false (sym h))
 
 kept_reference : (f : Family) (n : ℕ) (r : Option ℤ) → lawful_reference f n r ≡ true → integer_if (natural_if r) ≡ r
 kept_reference f n None h = refl
-kept_reference f n (Some r) h = ap Some (kept_number r (lt_z r (pos n)) (and_parts (may_refer f) (le_z (pos 0) r && lt_z r (pos n)) h).1)
+kept_reference f n (Some r) h = ap Some (kept_number r (lt_z r (pos n)) (and_parts _ _ h).1)
 
 kept_lawful : (f : Family) (n : ℕ) (t : Listing) → lawful_terms f n t.reference t.settlement t.spread ≡ true → lawful_series n (new_series (terms_of f t)) ≡ true
 kept_lawful f n t h =
-    let same = kept_reference f n t.reference (and_parts (lawful_reference f n t.reference) (side_lawful t.settlement && lawful_spread f t.spread) h).0 in
-    and_from (lawful_terms f n (integer_if (natural_if t.reference)) t.settlement t.spread) true
-    (ap (λ r. lawful_terms f n r t.settlement t.spread) same ∙ h)
-    refl
+    let same = kept_reference f n t.reference (and_parts _ _ h).0 in
+    and_from _ _ (ap (λ r. lawful_terms f n r t.settlement t.spread) same ∙ h) refl
 
 -- the terms found, if any, are lawful for the series numbered n
 abbrev Lawfully : ℕ → Result Terms HouseFault → Type 0

@@ -1,5 +1,5 @@
 -- What the steps find, and how far it reaches.
-use Rattle.std.proofs.Common.{◌≡◌, ℕ, ◌+◌, ◌≤◌, Bool, true, false, cond, ◌&&◌, ℤ, pos, negsuc, ◌+ℤ◌, ◌-ℤ◌, ◌*ℤ◌, nat_abs, ◌≤ℤ◌, Some, None, Ok, Option, sym, refl, ap, ◌∙◌, arith, MatchOption}
+use Rattle.std.proofs.Common.{◌≡◌, ℕ, ◌+◌, ◌≤◌, Bool, true, false, cond, ℤ, pos, negsuc, ◌+ℤ◌, ◌-ℤ◌, ◌*ℤ◌, nat_abs, ◌≤ℤ◌, Some, None, Ok, Option, sym, refl, ap, ◌∙◌, arith, MatchOption}
 use lib.Signed.{le_z}
 use Rattle.std.proofs.lemmas.Int.{ints}
 use Rattle.std.proofs.lemmas.Bool.{and_parts, cond_both, cond-false, cond-true}
@@ -20,8 +20,8 @@ use Rattle.rows.specs.declared.steps.Step.TheVariants.{Auction, Trade, Quote, Av
 use Rattle.house.specs.Answers.{Answer, ruled_first}
 use Rattle.house.specs.Found.{above_theory, finds, less, middle, nearest_theory, quoted, ruled}
 use Rattle.house.specs.Reach.{InReach, InReachBefore, reach}
-use Rattle.house.specs.Series.{integer_if, lawful_ruling, lawful_series}
-use Rattle.house.specs.Terms.{follows, lawful_reference, lawful_spread, lawful_terms}
+use Rattle.house.specs.Series.{lawful_ruling, lawful_series}
+use Rattle.house.specs.Terms.{lawful_spread}
 use Rattle.house.specs.declared.series.Ruling as rulings
 use Rattle.house.specs.declared.series.Series.{Series}
 
@@ -32,28 +32,22 @@ above_found P near v (Some p) h = ap Some (above_value P near v p h.1) ∙ sym (
 
 -- ---- what is known of a lawful series and of bounded figures, part by part
 
-record SeriesParts (s : Series) : Type 0 where
-  settlement : side_lawful s.terms.settlement ≡ true
-  spread : spread_if s.terms.spread ≡ true
-  theory : side_lawful s.theory ≡ true
-  ruling : lawful_ruling s.ruling ≡ true
+pub record SeriesParts (s : Series) : Type 0 where
+  pub settlement : side_lawful s.terms.settlement ≡ true
+  pub spread : spread_if s.terms.spread ≡ true
+  pub theory : side_lawful s.theory ≡ true
+  pub ruling : lawful_ruling s.ruling ≡ true
 
-series_parts : (n : ℕ) (s : Series) → lawful_series n s ≡ true → SeriesParts s
+pub series_parts : (n : ℕ) (s : Series) → lawful_series n s ≡ true → SeriesParts s
 series_parts n s h =
-    let t = s.terms in
-    let terms = lawful_terms t.family n (integer_if t.reference) t.settlement t.spread in
-    let whole = and_parts terms (side_lawful s.theory && lawful_ruling s.ruling) h in
-    let supplied = and_parts (side_lawful s.theory) (lawful_ruling s.ruling) whole.1 in
-    let rest = and_parts (lawful_reference t.family n (integer_if t.reference)) (side_lawful t.settlement && lawful_spread t.family t.spread) whole.0 in
-    let previous = and_parts (side_lawful t.settlement) (lawful_spread t.family t.spread) rest.1 in
-    record { settlement = previous.0; spread = any_spread t.spread previous.1; theory = supplied.0; ruling = supplied.1 }
+    let whole = and_parts _ _ h in
+    let supplied = and_parts _ _ whole.1 in
+    let previous = and_parts _ _ (and_parts _ _ whole.0).1 in
+    record { settlement = previous.0; spread = any_spread s.terms.spread previous.1; theory = supplied.0; ruling = supplied.1 }
   where
     any_spread : (v : Option ℤ) → lawful_spread s.terms.family v ≡ true → spread_if v ≡ true
     any_spread None e = refl
-    any_spread (Some v) e = (and_parts (follows s.terms.family) (spread_lawful v) e).1
-
-pub previous_spread : (n : ℕ) (s : Series) → lawful_series n s ≡ true → spread_if s.terms.spread ≡ true
-previous_spread n s h = (series_parts n s h).spread
+    any_spread (Some v) e = (and_parts _ _ e).1
 
 -- ---- how far prices reach
 

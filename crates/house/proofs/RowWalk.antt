@@ -1,6 +1,7 @@
 -- A row gone through place by place.
 use Rattle.std.proofs.Common.{◌≡◌, ℕ, zero, suc, ◌+◌, ◌≤◌, Bool, false, ◌||◌, List, [], ◌∷◌, length, drop, get_or, ℤ, Some, None, Option, refl, ap, ◌∙◌, arith}
 use Rattle.std.specs.List.{list_any}
+use Rattle.std.proofs.lemmas.List.{drop_all}
 use Rattle.rows.specs.Codes.{at}
 use Rattle.rows.specs.declared.places.Place.{Place}
 use Rattle.house.specs.Answers.{first_found, or_later, refers, some_refers}
@@ -19,12 +20,6 @@ rest_none [] (suc j) h = refl
 rest_none (q ∷ ps) zero h = grind arith
 rest_none (q ∷ ps) (suc j) h = rest_none ps j h
 
-rest_past : (ps : List Place) (j : ℕ) → length ps ≤ j → drop j ps ≡ []
-rest_past [] zero h = refl
-rest_past [] (suc j) h = refl
-rest_past (q ∷ ps) zero h = absurd (omega arith)
-rest_past (q ∷ ps) (suc j) h = rest_past ps j (omega arith)
-
 -- ---- the first place that finds a price
 
 module _ (find : Place → Option ℤ) (ps : List Place) (j : ℕ) (whole : Option Settlement) (so_far : whole ≡ first_found find (j + 1) (drop j ps)) where
@@ -41,7 +36,7 @@ module _ (find : Place → Option ℤ) (ps : List Place) (j : ℕ) (whole : Opti
   found_nowhere h = so_far ∙ ap (first_found find (j + 1)) (rest_none ps j h)
 
   pub found_not : length ps ≤ j → whole ≡ None
-  found_not h = so_far ∙ ap (first_found find (j + 1)) (rest_past ps j h)
+  found_not h = so_far ∙ ap (first_found find (j + 1)) (drop_all j ps h)
 
 -- ---- whether a step uses the reference
 

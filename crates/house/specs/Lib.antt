@@ -10,3 +10,4 @@ pub mod Questions
 pub mod Reach
 pub mod Meaning
 pub mod Worked
+pub mod Asked

@@ -1,5 +1,7 @@
 // The calls of the house, up to the question for a price.
-ghost use Rattle.std.specs.Prelude.{◌≡◌, true, nat_lt};
+#![tactic(auto, using(crate::proofs::Slots::supplied))]
+
+ghost use Rattle.std.specs.Prelude.{◌≡◌, IfErr, true, nat_lt};
 ghost use Rattle.house.specs.Calls.{bell_after, bell_answer, entry_after, entry_answer, entry_check, entry_passed, kind_on_ladder, list_after, list_answer, listed_terms, may_have, may_rule, new_state, ruling_after, ruling_answer, ruling_of, side_on_ladder, theory_after, theory_answer};
 ghost use Rattle.house.specs.Series.{lawful_ruling};
 ghost use Rattle.house.specs.Houses.{state};
@@ -34,51 +36,8 @@ fn may_have(family: Family, kind: Kind) -> bool
     }
 }
 
-// A side of a quote is on its ladder, or is missing.
-fn is_side_lawful<L: LadderSet>(set: &L, ladder: u8, side: Option<i64>) -> bool
-    ensures { result ≡ side_on_ladder (L.lawful set.now ladder) side }
-{
-    side.is_none_or(|price| is_lawful(set, ladder, price))
-}
-
-// Whether the prices of an entry are on the ladder.
-fn is_on_ladder<L: LadderSet>(set: &L, ladder: u8, kind: Kind) -> bool
-    ensures { result ≡ kind_on_ladder (L.lawful set.now ladder) kind }
-{
-    match kind {
-        // The kit's checker refuses an or-pattern that binds the price, so the three kinds stand one by one.
-        Kind::Trade { price, .. } => is_lawful(set, ladder, price),
-        Kind::Auction { price, .. } => is_lawful(set, ladder, price),
-        Kind::Leg { price, .. } => is_lawful(set, ladder, price),
-        Kind::Spread { .. } => true,
-        Kind::Quote { bid, ask } => {
-            is_side_lawful(set, ladder, bid) & is_side_lawful(set, ladder, ask)
-        }
-    }
-}
-
-// What the day and the terms of its series demand of an entry.
-fn check_entry<L: LadderSet>(
-    set: &L,
-    day: &Day,
-    entry: &Entry,
-    terms: &Terms,
-) -> Result<(), HouseFault>
-    ensures { result ≡ entry_check (L.lawful set.now) day.now entry.now terms.now }
-{
-    if !is_allowed(day, entry) {
-        return Err(BookFault::BeyondLimits.into());
-    }
-    if !may_have(terms.family, entry.kind) {
-        return Err(HouseFault::SpreadNotFollowing);
-    }
-    if !is_on_ladder(set, terms.ladder, entry.kind) {
-        return Err(HouseFault::OffLadder);
-    }
-    Ok(())
-}
-
-// A ruling that is cleared has no first mark.
+// A ruling that is cleared has no first mark. Value and mark stand apart, here and below, since a cleared ruling with a mark comes
+// in too, and is refused.
 fn may_rule(value: Option<i64>, first: bool) -> bool
     ensures { result ≡ may_rule value first }
 {
@@ -92,6 +51,8 @@ fn ruling_of(value: Option<i64>, first: bool) -> Option<Ruling>
     value.map(|value| Ruling { value, first })
 }
 
+// Each call that changes the house says in a clause `set` that its ladders stay: of a model of the house every clause would name
+// both parts as well.
 impl<L: LadderSet> House<L> {
     // A new house over a ladder set: listing, with no series.
     pub fn new(set: L) -> House<L>
@@ -123,6 +84,7 @@ impl<L: LadderSet> House<L> {
     pub fn list(&mut self, listing: Listing) -> Result<u8, HouseFault>
         ensures answer { result ≡ list_answer (L.size self.old.set) listing (state self.old) }
         ensures after { state self.new ≡ list_after (L.size self.old.set) listing (state self.old) }
+        ensures refused { IfErr result (λ _. state self.new ≡ state self.old) }
         ensures set { self.new.set ≡ self.old.set }
     {
         let number = self.listed.count();
@@ -135,12 +97,53 @@ impl<L: LadderSet> House<L> {
     pub fn ring(&mut self, bell: Bell) -> Result<(), HouseFault>
         ensures answer { result ≡ bell_answer bell (state self.old) }
         ensures after { state self.new ≡ bell_after bell (state self.old) }
+        ensures refused { IfErr result (λ _. state self.new ≡ state self.old) }
         ensures set { self.new.set ≡ self.old.set }
     {
         match (self.phase, bell) {
             (Phase::Listing, Bell::Open) => self.phase = Phase::Trading,
             (Phase::Trading, Bell::Close) => self.phase = Phase::Closed,
             _ => return Err(HouseFault::WrongPhase),
+        }
+        Ok(())
+    }
+
+    // A side of a quote is on its ladder, or is missing.
+    fn is_side_lawful(&self, ladder: u8, side: Option<i64>) -> bool
+        ensures { result ≡ side_on_ladder (L.lawful self.now.set ladder) side }
+    {
+        side.is_none_or(|price| is_lawful(&self.set, ladder, price))
+    }
+
+    // Whether the prices of an entry are on the ladder.
+    fn is_on_ladder(&self, ladder: u8, kind: Kind) -> bool
+        ensures { result ≡ kind_on_ladder (L.lawful self.now.set ladder) kind }
+    {
+        match kind {
+            // Three arms of one body: an or-pattern gets no proof where it binds an `i64`, which the prover then takes for
+            // unsigned.
+            Kind::Trade { price, .. } => is_lawful(&self.set, ladder, price),
+            Kind::Auction { price, .. } => is_lawful(&self.set, ladder, price),
+            Kind::Leg { price, .. } => is_lawful(&self.set, ladder, price),
+            Kind::Spread { .. } => true,
+            Kind::Quote { bid, ask } => {
+                self.is_side_lawful(ladder, bid) && self.is_side_lawful(ladder, ask)
+            }
+        }
+    }
+
+    // What the day and the terms of its series demand of an entry.
+    fn check_entry(&self, day: &Day, entry: &Entry, terms: &Terms) -> Result<(), HouseFault>
+        ensures { result ≡ entry_check (L.lawful self.now.set) day.now entry.now terms.now }
+    {
+        if !is_allowed(day, entry) {
+            return Err(BookFault::BeyondLimits.into());
+        }
+        if !may_have(terms.family, entry.kind) {
+            return Err(HouseFault::SpreadNotFollowing);
+        }
+        if !self.is_on_ladder(terms.ladder, entry.kind) {
+            return Err(HouseFault::OffLadder);
         }
         Ok(())
     }
@@ -153,13 +156,14 @@ impl<L: LadderSet> House<L> {
             return Err(HouseFault::WrongPhase);
         }
         let series = self.listed.series(entry.series)?;
-        check_entry(&self.set, day, entry, &series.terms)
+        self.check_entry(day, entry, &series.terms)
     }
 
     // Enters an entry into the book.
     pub fn enter<B: Book>(&self, book: &mut B, entry: Entry) -> Result<(), HouseFault>
         ensures answer { result ≡ entry_answer (L.LadderSet.lawful self.now.set) (B.Book.meaning book.old) entry (state self.now) }
         ensures after { B.Book.meaning book.new ≡ entry_after (L.LadderSet.lawful self.now.set) entry (state self.now) (B.Book.meaning book.old) }
+        ensures refused { IfErr result (λ _. B.Book.meaning book.new ≡ B.Book.meaning book.old) }
     {
         self.pass(&book.day(), &entry)?;
         book.take(entry)?;
@@ -170,6 +174,7 @@ impl<L: LadderSet> House<L> {
     pub fn set_theory(&mut self, series: i64, value: Option<i64>) -> Result<(), HouseFault>
         ensures answer { result ≡ theory_answer series value (state self.old) }
         ensures after { state self.new ≡ theory_after series value (state self.old) }
+        ensures refused { IfErr result (λ _. state self.new ≡ state self.old) }
         ensures set { self.new.set ≡ self.old.set }
     {
         let number = self.listed.find(series)?;
@@ -191,6 +196,7 @@ impl<L: LadderSet> House<L> {
     ) -> Result<(), HouseFault>
         ensures answer { result ≡ ruling_answer series value first (state self.old) }
         ensures after { state self.new ≡ ruling_after series value first (state self.old) }
+        ensures refused { IfErr result (λ _. state self.new ≡ state self.old) }
         ensures set { self.new.set ≡ self.old.set }
     {
         let number = self.listed.find(series)?;

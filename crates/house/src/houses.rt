@@ -2,8 +2,7 @@
 use crate::listed::Listed;
 use crate::phases::Phase;
 
-// No call changes the ladder set, and each says so in a clause of its own: a model of the house would name set and state in
-// every clause as well. The house has no book of its own: one is lent to each call that needs it, and the house's day is the book's.
+// The house has no book of its own: one is lent to each call that needs it, and the house's day is the book's.
 #[derive(Drop)]
 pub struct House<L> {
     pub(crate) set: L,

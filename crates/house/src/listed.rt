@@ -27,15 +27,12 @@ fn blank() -> Series
         spread: None,
         marks,
     };
-    Series {
-        terms,
-        theory: None,
-        ruling: None,
-    }
+    Series::new(terms)
 }
 
-// Every series has lawful terms, with a reference to an earlier one if any, and supplied values within the price limit. The
-// slots are an array with a count, since nothing here allocates; a vector within an array would ask for a default series.
+// Every series has lawful terms, with a reference to an earlier one if any, and supplied values within the price limit. What
+// is lawful goes by the series' number, which it does not know, so that functions say it. The slots are an array with a count,
+// since nothing here allocates; the kit's vector within an array would be a new dependency.
 #[derive(Drop)]
 pub struct Listed {
     slots: [Series; 32],
@@ -64,15 +61,15 @@ impl Listed {
         self.count
     }
 
-    // The series of a number; a blank one if none is listed by it.
+    // The series of a number; a blank one if none is listed by it, and no Option, so that a roll has one for every number.
     pub(crate) fn get(&self, n: u8) -> Series
         ensures value { result ≡ slice_index_or self.now.slots n blank }
         ensures lawful { lawful_series n result ≡ true }
     {
-        match self.slots.get(usize::from(n)) {
-            Some(series) => *series,
-            None => blank(),
-        }
+        self.slots
+            .get(usize::from(n))
+            .copied()
+            .unwrap_or_else(blank)
     }
 
     // The number of a listed series, in 8 bits.
@@ -96,11 +93,7 @@ impl Listed {
         requires lawful { lawful_series self.old.count (new_series terms) ≡ true }
         ensures { roll self.new.count self.new.slots ≡ with_listed terms (roll self.old.count self.old.slots) }
     {
-        self.slots[usize::from(self.count)] = Series {
-            terms,
-            theory: None,
-            ruling: None,
-        };
+        self.slots[usize::from(self.count)] = Series::new(terms);
         self.count += 1;
     }
 

@@ -4,6 +4,7 @@ ghost use Rattle.book.specs.Bounds.{bounded, spread_if};
 ghost use Rattle.house.specs.Answers.{price_of};
 ghost use Rattle.house.specs.Found.{above_theory, average, finds, less, nearest_theory, quoted};
 ghost use Rattle.house.specs.Reach.{InReachBefore};
+ghost use Rattle.ladders.specs.Values.{nearest_price};
 
 use crate::settling::{Question, price_of};
 use book::books::Book;
@@ -12,35 +13,8 @@ use ladders::rounding::nearest;
 use ladders::sets::LadderSet;
 use rows::steps::Step;
 
-// Nearest of the middle of the last quote, if that has both sides.
-fn quoted<L: LadderSet>(set: &L, ladder: u8, quote: Option<Sides>) -> Option<i64>
-    ensures { result ≡ quoted (L.lawful set.now ladder) quote }
-{
-    let Sides { bid, ask } = quote?;
-    nearest(set, ladder, (i64::from(bid?) + i64::from(ask?), 2))
-}
-
-// Nearest of money over lots.
-fn average<L: LadderSet>(set: &L, ladder: u8, money: i64, lots: i64) -> Option<i64>
-    requires { unsigned_abs lots ≤ 3000000000 }
-    ensures { result ≡ average (L.lawful set.now ladder) money lots }
-{
-    nearest(set, ladder, (money, lots.unsigned_abs() as u32))
-}
-
-fn nearest_theory<L: LadderSet>(set: &L, ladder: u8, theory: Option<i64>) -> Option<i64>
-    ensures { result ≡ nearest_theory (L.lawful set.now ladder) theory }
-{
-    nearest(set, ladder, (theory?, 1))
-}
-
-fn above_theory<L: LadderSet>(set: &L, ladder: u8, theory: Option<i64>) -> Option<i64>
-    ensures { result ≡ above_theory (L.lawful set.now ladder) theory }
-{
-    set.above(ladder, theory?)
-}
-
-// The reference's price less a spread: near month less far month, so that the far month is the near less the spread.
+// The reference's price less a spread: near month less far month, so that the far month is the near less the spread. No method,
+// since a proof has of a parameter that it fits 8 bits, and of a field has not.
 fn less(number: u8, reference: Option<i64>, spread: Option<i64>) -> Option<i64>
     requires reference { InReachBefore number reference }
     requires spread { spread_if spread ≡ true }
@@ -50,22 +24,57 @@ fn less(number: u8, reference: Option<i64>, spread: Option<i64>) -> Option<i64>
 }
 
 impl<L: LadderSet, B: Book> Question<'_, L, B> {
+    // The lawful price closest to a fraction, on the ladder of the series.
+    fn nearest(&self, fraction: (i64, u32)) -> Option<i64>
+        ensures { result ≡ nearest_price (L.LadderSet.lawful self.now.set.now self.now.series.terms.ladder) fraction.0 fraction.1 }
+    {
+        nearest(self.set, self.series.terms.ladder, fraction)
+    }
+
+    // Nearest of the middle of the last quote, if that has both sides.
+    fn quoted(&self, quote: Option<Sides>) -> Option<i64>
+        ensures { result ≡ quoted (L.LadderSet.lawful self.now.set.now self.now.series.terms.ladder) quote }
+    {
+        let Sides { bid, ask } = quote?;
+        self.nearest((i64::from(bid?) + i64::from(ask?), 2))
+    }
+
+    // Nearest of money over lots.
+    fn average(&self, money: i64, lots: i64) -> Option<i64>
+        requires { unsigned_abs lots ≤ 3000000000 }
+        ensures { result ≡ average (L.LadderSet.lawful self.now.set.now self.now.series.terms.ladder) money lots }
+    {
+        self.nearest((money, lots.unsigned_abs() as u32))
+    }
+
+    fn nearest_theory(&self) -> Option<i64>
+        ensures { result ≡ nearest_theory (L.LadderSet.lawful self.now.set.now self.now.series.terms.ladder) self.now.series.theory }
+    {
+        self.nearest((self.series.theory?, 1))
+    }
+
+    fn above_theory(&self) -> Option<i64>
+        ensures { result ≡ above_theory (L.LadderSet.lawful self.now.set.now self.now.series.terms.ladder) self.now.series.theory }
+    {
+        self.set
+            .above(self.series.terms.ladder, self.series.theory?)
+    }
+
     // What a step finds, with the figures of the step's window.
     pub(crate) fn find(&self, values: &Values, step: Step) -> Option<i64>
         requires { bounded 30000 values.now ≡ true }
         ensures { result ≡ finds (L.LadderSet.lawful self.now.set.now self.now.series.terms.ladder) (price_of self.now.reference) self.now.series values.now step }
     {
         let series = &self.series;
-        let ladder = series.terms.ladder;
         let reference = price_of(self.reference);
         // A match, and no table of functions: the steps are closed, and look at different things.
         match step {
             Step::Auction => values.auction.map(i64::from),
             Step::Trade => values.trade.map(i64::from),
-            Step::Quote => quoted(self.set, ladder, values.quote),
-            Step::Average => average(self.set, ladder, values.money, values.lots),
-            Step::Theory => nearest_theory(self.set, ladder, series.theory),
-            Step::TheoryUp => above_theory(self.set, ladder, series.theory),
+            Step::Quote => self.quoted(values.quote),
+            Step::Average => self.average(values.money, values.lots),
+            Step::Theory => self.nearest_theory(),
+            Step::TheoryUp => self.above_theory(),
             Step::Spread => less(self.number, reference, values.spread.map(i64::from)),
             Step::PreviousSpread => less(self.number, reference, series.terms.spread),
             Step::Copy => reference,

@@ -2,7 +2,7 @@
 ghost use Rattle.std.specs.Prelude.{◌≡◌, ℕ, ◌+◌, ◌<◌, true, None, slice_index_or};
 ghost use Rattle.std.proofs.Props.{props};
 ghost use Rattle.rows.specs.Codes.{at};
-ghost use Rattle.house.specs.Answers.{answered, by_row, first_found, origin, origin_of, price_of, refers, row_of, some_refers, station_of};
+ghost use Rattle.house.specs.Answers.{answered, by_row, first_found, origin, origin_of, price_of, refers, row_of, some_refers};
 ghost use Rattle.house.specs.Found.{found};
 ghost use Rattle.house.specs.Reach.{AnswerInReach, FoundInReach, InReach, InReachBefore};
 ghost use Rattle.house.specs.Series.{lawful_series};
@@ -17,7 +17,8 @@ use rows::steps::Step;
 use rows::tables::places;
 use std::alloc::AllocError;
 
-// A settlement, or the number of the series from which the refusal comes: nothing else can be wrong, so that no enum is needed.
+// A settlement, or the number of the series from which the refusal comes: nothing else can be wrong, so that no enum is needed. That
+// an answer is in reach is said by each function that gives one, since a Result has no ghost field.
 pub(crate) type Answer = Result<Settlement, u8>;
 
 // A series of which a price is asked, with all that its answer may rest on: the ladders, the book, its number, the edition, and
@@ -33,7 +34,7 @@ pub(crate) struct Question<'a, L, B> {
     ghost reach: { InReachBefore number (price_of reference) } by { Prim.hlevel props },
 }
 
-// By hand, since a derive would ask that ladders and books can be copied.
+// So that a question may be let go. By hand, since a derive, of `Drop` too, would ask the same of ladders and books.
 impl<L, B> Copy for Question<'_, L, B> {}
 
 impl<L, B> Clone for Question<'_, L, B> {
@@ -79,13 +80,12 @@ pub(crate) fn price_of(reference: Option<Answer>) -> Option<i64>
 fn origin_of(number: u8, reference: Option<Answer>) -> u8
     ensures { result ≡ origin_of number reference }
 {
-    match reference {
-        Some(Err(origin)) => origin,
-        _ => number,
-    }
+    reference.and_then(Result::err).unwrap_or(number)
 }
 
 impl<L: LadderSet, B: Book> Question<'_, L, B> {
+    ghost use Rattle.house.specs.Asked.{station_in};
+
     // The places of the row by which the series is settled.
     fn places(&self) -> [Option<Place>; 6]
         ensures { (k : ℕ) → slice_index_or result k None ≡ at (row_of self.now.series self.now.edition) k }
@@ -99,7 +99,7 @@ impl<L: LadderSet, B: Book> Question<'_, L, B> {
 
     // What a place of the row finds.
     fn look(&self, place: Place) -> Option<i64>
-        ensures value { result ≡ found (L.LadderSet.lawful self.now.set.now) (price_of self.now.reference) (station_of self.now.number self.now.series (B.Book.meaning self.now.book.now)) place }
+        ensures value { result ≡ found (L.LadderSet.lawful self.now.set.now) (price_of self.now.reference) (station_in B.Book.meaning self.now) place }
         ensures reach { InReach self.now.number result }
     {
         // A step that looks in no window reads none of the figures; no window is numbered 0.
@@ -109,9 +109,10 @@ impl<L: LadderSet, B: Book> Question<'_, L, B> {
 
     // The first place of the row that finds a price.
     fn first_found(&self) -> Option<Settlement>
-        ensures value { result ≡ first_found (found (L.LadderSet.lawful self.now.set.now) (price_of self.now.reference) (station_of self.now.number self.now.series (B.Book.meaning self.now.book.now))) 1 (row_of self.now.series self.now.edition) }
+        ensures value { result ≡ first_found (found (L.LadderSet.lawful self.now.set.now) (price_of self.now.reference) (station_in B.Book.meaning self.now)) 1 (row_of self.now.series self.now.edition) }
         ensures reach { FoundInReach self.now.number result }
     {
+        // A loop, since it ends at an empty place as well as at a price; the position is told with the price.
         let places = self.places();
         for (position, place) in places.iter().enumerate() {
             let place = (*place)?;
@@ -134,7 +135,7 @@ impl<L: LadderSet, B: Book> Question<'_, L, B> {
 
     // Where a refusal of the series comes from: from its reference only if a step of its row uses it.
     fn origin(&self) -> u8
-        ensures { result ≡ origin self.now.edition (station_of self.now.number self.now.series (B.Book.meaning self.now.book.now)) self.now.reference }
+        ensures { result ≡ origin self.now.edition (station_in B.Book.meaning self.now) self.now.reference }
     {
         if self.some_refers() {
             origin_of(self.number, self.reference)
@@ -145,15 +146,19 @@ impl<L: LadderSet, B: Book> Question<'_, L, B> {
 
     // By the row: the first place that finds a price, or the origin of the refusal.
     fn by_row(&self) -> Answer
-        ensures value { result ≡ by_row (L.LadderSet.lawful self.now.set.now) self.now.edition (station_of self.now.number self.now.series (B.Book.meaning self.now.book.now)) self.now.reference }
+        ensures value { result ≡ by_row (L.LadderSet.lawful self.now.set.now) self.now.edition (station_in B.Book.meaning self.now) self.now.reference }
         ensures reach { AnswerInReach self.now.number result }
     {
-        self.first_found().ok_or(self.origin())
+        // A match: of an `ok_or_else` the proof has too little of what its closure gives.
+        match self.first_found() {
+            Some(settlement) => Ok(settlement),
+            None => Err(self.origin()),
+        }
     }
 
     // The answer: a ruling with the first mark comes before the row.
     pub(crate) fn answer(&self) -> Answer
-        ensures value { result ≡ answered (L.LadderSet.lawful self.now.set.now) self.now.edition (station_of self.now.number self.now.series (B.Book.meaning self.now.book.now)) self.now.reference }
+        ensures value { result ≡ answered (L.LadderSet.lawful self.now.set.now) self.now.edition (station_in B.Book.meaning self.now) self.now.reference }
         ensures reach { AnswerInReach self.now.number result }
     {
         match self.series.ruling {

@@ -1,6 +1,8 @@
 // What is agreed of a series when it is listed.
-ghost use Rattle.std.specs.Prelude.{◌≡◌, true, if◌then◌else◌, Some, None, unsigned_abs};
-ghost use Rattle.house.specs.Terms.{checked, follows, is_ladder, lawful_reference, lawful_spread, lawful_terms, may_refer, must_refer, natural_if};
+ghost use Rattle.std.specs.Prelude.{◌≡◌, ◌&&◌, if◌then◌else◌, Some, None, Ok, Err, unsigned_abs};
+ghost use Rattle.book.specs.Entries.{side_lawful};
+ghost use Rattle.house.specs.Terms.{checked, follows, is_ladder, lawful_reference, lawful_spread, may_refer, must_refer, natural_if};
+ghost use Rattle.house.specs.declared.faults.HouseFault.TheVariants.{TermsNotLawful};
 
 use crate::faults::HouseFault;
 use book::entries::{is_side, is_spread};
@@ -20,7 +22,7 @@ pub struct Listing {
     pub marks: Marks,
 }
 
-// The terms of a listed series.
+// The terms of a listed series. Raw and checked terms are two types, so that what is checked need not be checked again.
 #[derive(Clone, Copy, PartialEq, Eq, Debug)]
 pub struct Terms {
     pub family: Family,
@@ -44,7 +46,7 @@ fn must_refer(family: Family) -> bool
 fn may_refer(family: Family) -> bool
     ensures { result ≡ may_refer family }
 {
-    must_refer(family) | (family == Family::DeliveredGrain)
+    must_refer(family) || family == Family::DeliveredGrain
 }
 
 // Whether a series of the family follows its reference by a spread.
@@ -61,51 +63,52 @@ pub(crate) fn number_under(v: i64, count: u8) -> Option<u8>
     u8::try_from(v).ok().filter(|n| *n < count)
 }
 
-// Whether the series numbered n may have the reference, which must be an earlier series.
-fn is_lawful_reference(family: Family, n: u8, reference: Option<i64>) -> bool
-    ensures { result ≡ lawful_reference family n reference }
+// The reference of the series numbered n, which must be an earlier series, where the family needs or has one.
+fn checked_reference(
+    family: Family,
+    n: u8,
+    reference: Option<i64>,
+) -> Result<Option<u8>, HouseFault>
+    ensures { result ≡ (if lawful_reference family n reference then Ok (natural_if reference) else Err TermsNotLawful) }
 {
     match reference {
-        Some(r) => may_refer(family) & (0..i64::from(n)).contains(&r),
-        None => !must_refer(family),
+        Some(r) if may_refer(family) => {
+            let earlier = number_under(r, n).ok_or(HouseFault::TermsNotLawful)?;
+            Ok(Some(earlier))
+        }
+        None if !must_refer(family) => Ok(None),
+        _ => Err(HouseFault::TermsNotLawful),
     }
 }
 
 fn is_lawful_spread(family: Family, spread: Option<i64>) -> bool
     ensures { result ≡ lawful_spread family spread }
 {
-    spread.is_none_or(|v| follows(family) & is_spread(v))
-}
-
-// Whether the series numbered n may have the reference, the previous settlement and the previous spread.
-fn is_lawful_terms(family: Family, n: u8, listing: &Listing) -> bool
-    ensures { result ≡ lawful_terms family n listing.now.reference listing.now.settlement listing.now.spread }
-{
-    let previous = is_side(listing.settlement) & is_lawful_spread(family, listing.spread);
-    is_lawful_reference(family, n, listing.reference) & previous
-}
-
-fn short_reference(family: Family, n: u8, reference: Option<i64>) -> Option<u8>
-    requires { lawful_reference family n reference ≡ true }
-    ensures { result ≡ natural_if reference }
-{
-    reference.map(|r| r as u8)
+    spread.is_none_or(|v| follows(family) && is_spread(v))
 }
 
 impl Listing {
+    // Whether a series of the family may have the previous settlement and the previous spread.
+    fn has_lawful_previous(&self, family: Family) -> bool
+        ensures { result ≡ (side_lawful self.now.settlement && lawful_spread family self.now.spread) }
+    {
+        is_side(self.settlement) && is_lawful_spread(family, self.spread)
+    }
+
     // The terms of the series numbered n, over a set of so many ladders, if they are lawful as a whole.
     pub(crate) fn checked(&self, n: u8, ladders: u8) -> Result<Terms, HouseFault>
         ensures { result ≡ checked n ladders self.now }
     {
         let family = Family::try_from(self.family)?;
         let ladder = number_under(self.ladder, ladders).ok_or(HouseFault::TermsNotLawful)?;
-        if !is_lawful_terms(family, n, self) {
+        let reference = checked_reference(family, n, self.reference)?;
+        if !self.has_lawful_previous(family) {
             return Err(HouseFault::TermsNotLawful);
         }
         Ok(Terms {
             family,
             ladder,
-            reference: short_reference(family, n, self.reference),
+            reference,
             settlement: self.settlement,
             spread: self.spread,
             marks: self.marks,

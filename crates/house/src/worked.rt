@@ -1,7 +1,10 @@
-// The worked prices, as one list: each is proved of what the steps and answers mean, and tests run the code on them.
+// The worked prices, as one list: each is proved of what the steps and answers mean, and the tests of `house_trials` try them.
 ghost use Rattle.std.specs.Prelude.{◌≡◌, Err};
 ghost use Rattle.std.specs.List.{AllByRecursion};
+ghost use Rattle.house.specs.Faults.{house_number};
+ghost use Rattle.house.specs.Questions.{as_told};
 ghost use Rattle.house.specs.Worked.{Holds, bare_chain};
+ghost use Rattle.house.specs.declared.faults.HouseFault.TheVariants.{NoPrice};
 
 use rows::steps::Step;
 
@@ -23,6 +26,7 @@ pub struct WorkedPrice {
 pub fn worked_prices() -> ([WorkedPrice; 7], u8)
     ensures prices { AllByRecursion Holds result.0 }
     ensures refused { bare_chain ≡ Err result.1 }
+    ensures told { (as_told bare_chain ≡ Err (NoPrice result.1)) × (house_number (NoPrice result.1) ≡ 10) }
 {
     let nothing = WorkedPrice {
         tick: 10,

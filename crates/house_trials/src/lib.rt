@@ -153,9 +153,10 @@ mod tests {
         use book::lawful::LawfulDay;
         use house::answers::Settlement;
         use house::faults::HouseFault;
+        use house::houses::House;
         use house::phases::Bell;
         use house::terms::Listing;
-        use ladders::sets::LadderSet;
+        use ladders::sets::{EvenSet, LadderSet};
         use rows::places::{Edition, Marks};
         use rows::steps::Step;
         use std::test::*;
@@ -191,6 +192,31 @@ mod tests {
             assert_eq!(rt; found.err(), Some(HouseFault::NoPrice(0)));
             let found = closing(listing(10, None), [(140_000, one), (140_000, two)])?;
             assert_eq!(rt; found, price(110, Step::Quote, 2));
+            Ok(())
+        }
+
+        // A theory value on a tick of 10,000, and the middle of a bid and an ask that is halfway between two prices.
+        #[test]
+        fn worked(rt: HostRuntime) -> Result<(), Fail> {
+            let mut house = House::new(EvenSet::new(&[10_000i64])?);
+            let board = Board::new(LawfulDay::new(DAY)?, 1);
+            house.list(listing(9, None))?;
+            house.set_theory(0, Some(38_514_999))?;
+            house.ring(Bell::Open)?;
+            assert_eq!(rt;
+                house.settle(&board, 0, Edition::Morning),
+                price(38_510_000, Step::Theory, 1)
+            );
+            let one = Kind::Quote {
+                bid: Some(100),
+                ask: None,
+            };
+            let wide = Kind::Quote {
+                bid: Some(100),
+                ask: Some(130),
+            };
+            let found = closing(listing(10, None), [(140_000, one), (140_001, wide)])?;
+            assert_eq!(rt; found, price(120, Step::Quote, 2));
             Ok(())
         }
 
@@ -399,6 +425,7 @@ mod tests {
         use house::phases::Bell;
         use ladders::sets::{EvenSet, LadderSet};
         use rows::places::Edition;
+        use rows::steps::Step;
         use std::process::Abort;
         use std::test::*;
         use tape::tapes::Tape;
@@ -488,6 +515,16 @@ mod tests {
                 2,
                 "2 before 6"
             );
+            assert_eq!(rt;
+                refusal(house.enter(book, trade(0, 140_000, 101))),
+                2,
+                "2 before 7"
+            );
+            assert_eq!(rt;
+                refusal(house.enter(book, spread(0, 140_000, 10))),
+                2,
+                "2 before 8"
+            );
             house.ring(Bell::Open)?;
             house.enter(book, TRADE)?;
             house.ring(Bell::Close)?;
@@ -573,9 +610,69 @@ mod tests {
             Ok(())
         }
 
+        // Limits of each kind of entry: prices, lots, sides and spreads.
+        fn kinds_beyond_limits<B: Book>(rt: &impl Abort, book: &mut B) -> Result<(), Fail> {
+            let mut house = new_house()?;
+            house.list(listing(1, None))?;
+            house.list(listing(2, Some(0)))?;
+            house.ring(Bell::Open)?;
+            let price = 1_000_000_010;
+            let far = [
+                Kind::Auction { price, lots: 1 },
+                Kind::Leg { price, lots: 1 },
+                Kind::Trade {
+                    price: 100,
+                    lots: 0,
+                },
+                Kind::Trade {
+                    price: 100,
+                    lots: 100_001,
+                },
+                Kind::Quote {
+                    bid: None,
+                    ask: Some(price),
+                },
+            ];
+            for kind in far {
+                assert_eq!(rt; refusal(house.enter(book, entry(0, 140_000, kind))), 6);
+            }
+            for difference in [100_000_001, -100_000_001] {
+                assert_eq!(rt;
+                    refusal(house.enter(book, spread(1, 140_000, difference))),
+                    6
+                );
+            }
+            assert_eq!(rt; book.count(), 0);
+            Ok(())
+        }
+
         #[test]
         fn limits(rt: HostRuntime) -> Result<(), Fail> {
-            on_both!(rt, entries_beyond_limits, 1)
+            on_both!(rt, entries_beyond_limits, 1)?;
+            on_both!(rt, kinds_beyond_limits, 1)
+        }
+
+        // Refused calls of every kind, and then the same answer as before them.
+        fn refused_leave_all<B: Book>(rt: &impl Abort, book: &mut B) -> Result<(), Fail> {
+            let mut house = trading()?;
+            house.set_ruling(0, Some(90), false)?;
+            house.enter(book, trade(0, 120_000, 100))?;
+            assert_eq!(rt; refusal(house.ring(Bell::Open)), 2);
+            assert_eq!(rt; refusal(house.list(listing(1, None))), 2);
+            assert_eq!(rt; refusal(house.enter(book, trade(0, 121_000, 105))), 7);
+            assert_eq!(rt; refusal(house.enter(book, trade(0, 121_000, 110))), 9);
+            assert_eq!(rt; refusal(house.set_theory(0, Some(1_000_000_001))), 6);
+            assert_eq!(rt; refusal(house.set_ruling(0, None, true)), 6);
+            assert_eq!(rt;
+                house.settle(book, 0, Edition::Morning),
+                price(100, Step::Trade, 1)
+            );
+            Ok(())
+        }
+
+        #[test]
+        fn refusals_leave_all(rt: HostRuntime) -> Result<(), Fail> {
+            on_both!(rt, refused_leave_all, 1)
         }
 
         // On tick 10, 101 is no price. A spread is no price, and for family 2 only.
@@ -683,6 +780,10 @@ mod tests {
                 6,
                 "a cleared ruling with a first mark"
             );
+            house.set_ruling(0, Some(90), false)?;
+            house.ring(Bell::Close)?;
+            assert_eq!(rt; refusal(house.set_theory(1, None)), 4, "when closed");
+            assert_eq!(rt; refusal(house.set_ruling(0, None, true)), 6, "when closed");
             Ok(())
         }
 

@@ -1,12 +1,12 @@
 -- A description has no fault exactly if it is lawful.
-use Rattle.std.specs.Prelude.{◌≡◌, Bool, true, false, cond, ◌&&◌, List, [], ◌∷◌, length, ℤ, pos, ◌≤ℤ◌, Some, None, Decides, Option, int_le, nat_le, unsigned_abs, refl}
+use Rattle.std.specs.Prelude.{◌≡◌, Bool, true, false, cond, ◌&&◌, List, [], ◌∷◌, length, ℤ, pos, ◌≤ℤ◌, is_ok, Some, None, Ok, Err, Decides, Option, Result, int_le, nat_le, unsigned_abs, refl}
 use Rattle.std.proofs.Common.{sym, ap, ◌∙◌, arith}
 use Rattle.std.specs.List.{AllByRecursion}
 use Rattle.std.proofs.lemmas.Int.{ints}
 use Rattle.std.proofs.lemmas.Option.{none-some}
 use Rattle.std.proofs.lemmas.Bool.{and_parts, and_from, cond-true, leb-true, le-leb, true≢false}
 use Rattle.ladders.specs.Bands.{rises, start_fault, band_fault, first_fault, later_fault, ladder_fault, no_start}
-use Rattle.ladders.specs.Faults.{or_else, tick_fault}
+use Rattle.ladders.specs.Faults.{TakenUnless, or_else, tick_fault}
 use Rattle.ladders.specs.Lawful.{LawfulTick, Over, Starts, Follows, Chain, LawfulBands}
 use Rattle.ladders.specs.Multiples.{multiple}
 use Rattle.ladders.specs.Prices.{within}
@@ -141,3 +141,8 @@ bands_sound (b ∷ bs) h =
 -- bands with a fault are not lawful, so a constructor is right to refuse them
 pub refused_unlawful : (bs : List Band) (f : LadderFault) → ladder_fault bs ≡ Some f → Decides false (LawfulBands bs)
 refused_unlawful bs f e = (λ t. absurd (true≢false (sym t)), λ l. absurd (none-some f (sym (bands_sound bs l) ∙ e)))
+
+-- a constructor that succeeds where there is no fault, and otherwise tells it, takes exactly the lawful bands
+pub taken_if_lawful : {L : Type 0} (M : L → Type 0) (bs : List Band) (r : Result L LadderFault) → TakenUnless (ladder_fault bs) M r → Decides (is_ok r) (LawfulBands bs)
+taken_if_lawful M bs (Ok l) h = (λ _. bands_lawful bs h.0, λ _. refl)
+taken_if_lawful M bs (Err f) h = refused_unlawful bs f h

@@ -1,7 +1,9 @@
 -- What is lawful on a ladder of a set.
-use Rattle.std.specs.Prelude.{◌≡◌, ℕ, zero, suc, ◌+◌, ◌<◌, ◌≤◌, Bool, true, cond, List, [], ◌∷◌, ◌++◌, length, take, drop, ℤ, Some, None, Option, slice_index_or, slice_set, refl}
+use Rattle.std.specs.Prelude.{◌≡◌, ℕ, zero, suc, ◌+◌, ◌<◌, ◌≤◌, Bool, true, cond, List, [], ◌∷◌, ◌++◌, length, take, drop, ℤ, Some, None, Option, MatchOption, option_copied, slice_get, slice_index_or, slice_set, refl}
+use Rattle.std.specs.Borrow.{Bor}
+use Rattle.std.specs.Option.{option_map_or}
 use Rattle.std.proofs.Common.{sym, ap, ◌∙◌, subst, arith}
-use Rattle.std.proofs.lemmas.List.{at_drop_more, get_or-take, length-take, length-take-le, take_more, take_more_set}
+use Rattle.std.proofs.lemmas.List.{at_drop_more, length-take, take_more, take_more_set}
 use Rattle.std.proofs.lemmas.Int.{ints}
 use Rattle.ladders.specs.Faults.{or_else, size_fault}
 use Rattle.ladders.specs.declared.faults.LadderFault.{LadderFault}
@@ -11,16 +13,19 @@ use Rattle.ladders.specs.Rounding.{AnswersWhere, Above, Below, Near}
 use Rattle.ladders.specs.Sets.{lawful_at, each_fault, set_fault}
 
 module _ {L : Type 0} (holds : L → ℤ → Bool) where
-  at_place : (ls : List L) (n : ℕ) (d : L) → n < length ls → lawful_at holds ls n ≡ holds (slice_index_or ls n d)
-  at_place [] n d h = absurd (omega arith)
-  at_place (l ∷ ls) zero d h = refl
-  at_place (l ∷ ls) (suc n) d h = at_place ls n d (omega arith)
+  -- every whole number is lawful where the set has no ladder
+  pub at_get : (ls : List L) (n : ℕ) → lawful_at holds ls n ≡ option_map_or holds (slice_get ls n) (λ v. true)
+  at_get [] n = refl
+  at_get (l ∷ ls) zero = refl
+  at_get (l ∷ ls) (suc n) = at_get ls n
 
-  -- a ladder that the set has
-  pub in_set : (ls : List L) (k n : ℕ) (d : L) → n < k → k ≤ length ls → holds (slice_index_or ls n d) ≡ lawful_at holds (take k ls) n
-  in_set ls k n d h few =
-      let long = length-take-le k ls few in
-      sym (at_place (take k ls) n d (omega arith) ∙ ap holds (get_or-take k ls n d h))
+  -- what follows from the ladder that is found at a number, and what from there being none, holds of the number
+  pub by_ladder : (Q : (ℤ → Bool) → Type 0) (ls : List L) (n : ℕ) (o : Option (Bor L)) (N : Type 0) (S : Bor L → Type 0) → option_copied o ≡ slice_get ls n → MatchOption o N S → (N → Q (λ v. true)) → ((l : Bor L) → S l → Q (holds l.now)) → Q (lawful_at holds ls n)
+  by_ladder Q ls n o N S e m none some = subst Q (ap (λ p. option_map_or holds p (λ v. true)) e ∙ sym (at_get ls n)) (each o m)
+    where
+      each : (o : Option (Bor L)) → MatchOption o N S → Q (option_map_or holds (option_copied o) (λ v. true))
+      each None m = none m
+      each (Some l) m = some l m
 
   -- a ladder that it lacks
   past_set : (ls : List L) (n : ℕ) → length ls ≤ n → (v : ℤ) → lawful_at holds ls n v ≡ true

@@ -1,4 +1,5 @@
-// The bands of a stepped ladder.
+// The bands of a stepped ladder. Three types, since what is known differs: a Band is as described, a Step as the ladder
+// keeps it, and stepping's Before as the next band looks at it.
 use crate::ticks::Tick;
 
 // A band as it is described, unchecked. The first band has no start: it reaches down without end.

@@ -1,5 +1,5 @@
-// Rounding to the lawful prices of a ladder, on any set of ladders. A fraction is a pair, as in the rules, and a set and a
-// ladder's number stay two parameters, as callers have them.
+// Rounding to the lawful prices of a ladder, on any set of ladders. A fraction is a pair, as in the rules. A set and a
+// ladder's number are two parameters: public calls have them apart, and one value would ask more of them.
 ghost use Rattle.std.specs.Prelude.{◌≡◌, ◌^◌, ◌<◌, true, ◌&&◌, pos, ◌+ℤ◌, ◌-ℤ◌, ◌*ℤ◌, ◌≤ℤ◌, IfSome, unsigned_abs};
 ghost use Rattle.ladders.specs.Fractions.{inside, floor, ceiling};
 ghost use Rattle.ladders.specs.Prices.{within};

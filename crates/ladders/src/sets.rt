@@ -1,5 +1,5 @@
 // A set of 1 to 16 ladders, numbered from 0.
-ghost use Rattle.std.specs.Prelude.{◌≡◌, ℕ, ◌≤◌, Bool, true, length, take, ℤ, if◌then◌else◌, Some, None};
+ghost use Rattle.std.specs.Prelude.{◌≡◌, ℕ, ◌≤◌, Bool, true, length, take, ℤ, if◌then◌else◌, Some, None, slice_get, option_copied};
 ghost use Rattle.ladders.specs.Prices.{within};
 ghost use Rattle.ladders.specs.Rounding.{AnswersWhere, Above, Below, Near};
 ghost use Rattle.ladders.specs.Faults.{TakenUnless, size_fault};
@@ -40,7 +40,7 @@ pub trait LadderSet {
 }
 
 // A set of ladders of one make. The places from `count` on are not used: an array, since nothing here allocates, and no
-// ArrayVec, whose `new` asks that L has a default.
+// ArrayVec of the kit, which would be a new dependency, and whose `new` asks that L has a default.
 #[derive(Drop)]
 pub struct SetOf<L> {
     ladders: [L; 16],
@@ -76,12 +76,20 @@ impl<L: Ladder> SetOf<L> {
         ensures { TakenUnless (set_fault D.Describes.fault described.now) (λ s. (s.count ≡ length described.now) × ((n : ℕ) (v : ℤ) → lawful_at L.Ladder.holds (take s.count s.ladders) n v ≡ lawful_at D.Describes.prices described.now n v)) result }
     {
         let count = checked_count(described.len())?;
+        // The first is checked twice, as the array needs a filler.
         let mut ladders = [described[0].checked()?; 16];
         // By place, since a zip with `iter_mut` leaves the proof without the array's values.
         for (i, next) in described.iter().enumerate() {
             ladders[i] = next.checked()?;
         }
         Ok(SetOf { ladders, count })
+    }
+
+    // The ladder of a number, if the set has it.
+    fn ladder(&self, number: u8) -> Option<&L>
+        ensures { option_copied result ≡ slice_get (take self.now.count self.now.ladders) number }
+    {
+        self.ladders[..usize::from(self.count)].get(usize::from(number))
     }
 }
 
@@ -101,16 +109,10 @@ impl<L: Ladder> LadderSet for SetOf<L> {
     }
 
     fn above(&self, ladder: u8, v: i64) -> Option<i64> {
-        if ladder < self.count {
-            return self.ladders[ladder as usize].above(v);
-        }
-        whole(v)
+        self.ladder(ladder).map_or_else(|| whole(v), |l| l.above(v))
     }
 
     fn below(&self, ladder: u8, v: i64) -> Option<i64> {
-        if ladder < self.count {
-            return self.ladders[ladder as usize].below(v);
-        }
-        whole(v)
+        self.ladder(ladder).map_or_else(|| whole(v), |l| l.below(v))
     }
 }

@@ -11,7 +11,8 @@ use crate::limits::is_within;
 use crate::rungs::Ladder;
 use crate::ticks::Tick;
 
-// An array with a count, since nothing here allocates, and no ArrayVec, which is not Copy.
+// An array with a count, since nothing here allocates, and no ArrayVec of the kit, which would be a new dependency and is
+// not Copy.
 #[derive(Clone, Copy)]
 pub struct SteppedLadder {
     first: Tick,
@@ -63,6 +64,17 @@ impl Before {
     }
 }
 
+impl From<Step> for Before {
+    ghost from_gives = { λ s b. (b.start ≡ Some s.start) × (b.tick ≡ s.tick) };
+
+    fn from(step: Step) -> Before {
+        Before {
+            start: Some(step.start),
+            tick: step.tick,
+        }
+    }
+}
+
 // Whether a ladder may have this many bands after the first.
 fn are_few(later: usize) -> bool
     ensures { result ≡ nat_le later 3 }
@@ -97,10 +109,7 @@ fn checked_steps(first: Tick, rest: &[Band]) -> Result<[Step; 3], LadderFault>
     for (i, next) in rest.iter().enumerate() {
         let step = before.checked_step(*next)?;
         later[i] = step;
-        before = Before {
-            start: Some(step.start),
-            tick: step.tick,
-        };
+        before = Before::from(step);
     }
     Ok(later)
 }

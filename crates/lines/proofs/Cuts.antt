@@ -1,6 +1,6 @@
 -- Cutting a line at its spaces, and putting it together again.
 use Rattle.std.proofs.Common.{◌≡◌, ℕ, zero, suc, ◌+◌, ◌-◌, ◌<◌, ◌≤◌, Bool, true, false, cond, not, eqb, ◌⊎◌, List, [], ◌∷◌, ◌++◌, length, get_or, take, drop, sym, refl, ap, ◌∙◌, inl, inr, ⊎_elim, add-one, arith, drop-cons, eq-eqb, ne_eqb, eqb-true}
-use Rattle.std.specs.List.{position_or_len}
+use Rattle.std.specs.List.{AllByRecursion, position_or_len}
 use Rattle.std.proofs.lemmas.Bool.{true≢false}
 use Rattle.std.proofs.lemmas.Bool.Decides.{leb_tells}
 use Rattle.std.proofs.lemmas.List.Sums.{fails_before_first, passes_at_first, prefix_len-le-length}
@@ -43,12 +43,10 @@ left_cut line at h = ap behind (drop-cons line at 0 h) ∙ ap (λ n. fields (dro
 
 -- no space is in the field
 abbrev pub Spaceless : List ℕ → Type 0
-Spaceless [] = Unit {0}
-Spaceless (b ∷ bs) = (b ≡ 32 → ⊥) × Spaceless bs
+Spaceless f = AllByRecursion (λ b. b ≡ 32 → ⊥) f
 
 abbrev pub AllSpaceless : List (List ℕ) → Type 0
-AllSpaceless [] = Unit {0}
-AllSpaceless (f ∷ fs) = Spaceless f × AllSpaceless fs
+AllSpaceless fs = AllByRecursion Spaceless fs
 
 pub fields_spaced : (f : List ℕ) (fs : List (List ℕ)) → Spaceless f → AllSpaceless fs → fields (f ++ trailed fs) ≡ f ∷ fs
 fields_spaced [] [] h hs = refl

@@ -1,6 +1,15 @@
 -- Places at which fields depart from a grammar, from part to whole.
 use Rattle.std.proofs.Common.{◌≡◌, ℕ, ◌+◌, List, [], ◌∷◌, ◌++◌, length, sym, refl, ap, ◌∙◌, inl, inr}
-use Rattle.lines.specs.Places.{GoesOn, Lacks, Breaks, after, Missed}
+use Rattle.lines.specs.Places.{GoesOn, Lacks, Whole, Breaks, after, Missed}
+
+-- ---- a place in one grammar is a place in another, where the same fields go on
+
+module _ {C D : Type 0} (cs : C → List (List ℕ)) (cl : C → Type 0) (ds : D → List (List ℕ)) (dl : D → Type 0) where
+  pub breaks_to : (good good' : List (List ℕ)) → ((f : List ℕ) → GoesOn cs cl good f → GoesOn ds dl good' f) → ((f : List ℕ) → GoesOn ds dl good' f → GoesOn cs cl good f) → (Whole cs cl good → Whole ds dl good') → (rest : List (List ℕ)) (q p : ℕ) → Breaks cs cl good rest q p → Breaks ds dl good' rest q p
+  breaks_to good good' to from whole [] q p b = (record { field = b.0.field; goes = to b.0.field b.0.goes }, b.1)
+  breaks_to good good' to from whole (f ∷ more) q p (inl b) =
+      inl (record { field = b.0.field; goes = to b.0.field b.0.goes }, (λ g. b.1 (from f g)), b.2)
+  breaks_to good good' to from whole (f ∷ more) q p (inr b) = inr (whole b.0, b.1)
 
 -- ---- one value and the values after it
 
@@ -21,12 +30,8 @@ module _ {T R : Type 0} (ts : T → List ℕ) (tl : T → Type 0) (rs : R → Li
       let w : rs g.meant.1 ≡ good ++ (f ∷ g.more) = cc in
       record { meant = g.meant.1; holds = g.holds.1; more = g.more; writes = w }
 
-  breaks_more : (t : T) → tl t → (good rest : List (List ℕ)) (q p : ℕ) → Breaks rs rl good rest q p → Breaks both_spelt both_lawful (ts t ∷ good) rest q p
-  breaks_more t h good [] q p b = (record { field = b.0.field; goes = goes_more t h good b.0.field b.0.goes }, b.1)
-  breaks_more t h good (f ∷ more) q p (inl b) =
-      inl (record { field = b.0.field; goes = goes_more t h good b.0.field b.0.goes }, (λ g. b.1 (goes_less t good f g)), b.2)
-  breaks_more t h good (f ∷ more) q p (inr b) =
-      inr (record { meant = (t, b.0.meant); holds = (h, b.0.holds); writes = ap (λ xs. ts t ∷ xs) b.0.writes }, b.1)
+  whole_more : (t : T) → tl t → (good : List (List ℕ)) → Whole rs rl good → Whole both_spelt both_lawful (ts t ∷ good)
+  whole_more t h good w = record { meant = (t, w.meant); holds = (h, w.holds); writes = ap (λ xs. ts t ∷ xs) w.writes }
 
   -- the first value is right, and a later one is not
   pub missed_more : (t : T) → tl t → (f : List ℕ) → f ≡ ts t → (all fs fs' : List (List ℕ)) → all ≡ f ∷ fs → fs' ≡ fs → (q q' p : ℕ) → q' ≡ q + (length f + 1) → Missed rs rl fs' q' p → Missed both_spelt both_lawful all q p
@@ -36,7 +41,9 @@ module _ {T R : Type 0} (ts : T → List ℕ) (tl : T → Type 0) (rs : R → Li
         good = ts t ∷ m.good;
         rest = m.rest;
         parts = e ∙ ap (λ g. g ∷ fs) ef ∙ ap (λ xs. ts t ∷ xs) (sym e' ∙ m.parts);
-        breaks = breaks_more t h m.good m.rest (after m.good (q + (length (ts t) + 1))) p b;
+        breaks =
+            breaks_to rs rl both_spelt both_lawful m.good (ts t ∷ m.good) (goes_more t h m.good) (goes_less t m.good)
+            (whole_more t h m.good) m.rest (after m.good (q + (length (ts t) + 1))) p b;
       }
 
   -- a field begins lawful values
@@ -78,18 +85,8 @@ goes_into cs cl ds dl to good f g =
     record { meant = d.0; holds = d.1; more = g.more; writes = d.2 ∙ g.writes }
 
 module _ {C D : Type 0} (cs : C → List (List ℕ)) (cl : C → Type 0) (ds : D → List (List ℕ)) (dl : D → Type 0) (to : Into cs cl ds dl) (from : Into ds dl cs cl) where
-  breaks_into : (good rest : List (List ℕ)) (q p : ℕ) → Breaks cs cl good rest q p → Breaks ds dl good rest q p
-  breaks_into good [] q p b =
-      (record { field = b.0.field; goes = goes_into cs cl ds dl to good b.0.field b.0.goes }, b.1)
-  breaks_into good (f ∷ more) q p (inl b) =
-      inl (
-        record { field = b.0.field; goes = goes_into cs cl ds dl to good b.0.field b.0.goes },
-        (λ g. b.1 (goes_into ds dl cs cl from good f g)),
-        b.2,
-      )
-  breaks_into good (f ∷ more) q p (inr b) =
-      let d = to b.0.meant b.0.holds in
-      inr (record { meant = d.0; holds = d.1; writes = d.2 ∙ b.0.writes }, b.1)
+  whole_into : (good : List (List ℕ)) → Whole cs cl good → Whole ds dl good
+  whole_into good w = let d = to w.meant w.holds in record { meant = d.0; holds = d.1; writes = d.2 ∙ w.writes }
 
   -- and then they miss at the same places
   pub missed_into : (fs : List (List ℕ)) (q p : ℕ) → Missed cs cl fs q p → Missed ds dl fs q p
@@ -98,5 +95,7 @@ module _ {C D : Type 0} (cs : C → List (List ℕ)) (cl : C → Type 0) (ds : D
         good = m.good;
         rest = m.rest;
         parts = m.parts;
-        breaks = breaks_into m.good m.rest (after m.good q) p m.breaks;
+        breaks =
+            breaks_to cs cl ds dl m.good m.good (goes_into cs cl ds dl to m.good) (goes_into ds dl cs cl from m.good)
+            (whole_into m.good) m.rest (after m.good q) p m.breaks;
       }

@@ -1,7 +1,8 @@
 -- Fields with no space and at most eleven bytes, as every call's are.
-use Rattle.std.proofs.Common.{◌≡◌, ℕ, suc, ◌*◌, ◌≤◌, Bool, true, false, not, ◌&&◌, eqb, List, [], ◌∷◌, length, ℤ, pos, negsuc, Some, None, decimal, Option, refl, subst, arith, length-append, eq-eqb}
+use Rattle.std.proofs.Common.{◌≡◌, ℕ, suc, ◌*◌, ◌≤◌, Bool, true, false, not, eqb, List, [], ◌∷◌, length, ℤ, pos, negsuc, Some, None, decimal, Option, refl, subst, arith, length-append, eq-eqb}
 use Rattle.std.proofs.lemmas.Fmt.{digits_decimal, length-decimal-le}
 use Rattle.std.proofs.lemmas.Str.Parse.{digit_from_value}
+use Rattle.std.specs.List.{AllByRecursion, list_all}
 use Rattle.std.specs.Str.Parse.{AllDigits}
 use Rattle.std.specs.Fmt.{signed_decimal}
 use Rattle.house.specs.declared.phases.Bell.{Bell}
@@ -25,14 +26,12 @@ pub record Neat (f : List ℕ) : Type 0 where
   pub short : length f ≤ 11
 
 abbrev pub AllNeat : List (List ℕ) → Type 0
-AllNeat [] = Unit {0}
-AllNeat (f ∷ fs) = Neat f × AllNeat fs
+AllNeat fs = AllByRecursion Neat fs
 
 -- ---- words
 
 abbrev spaceless : List ℕ → Bool
-spaceless [] = true
-spaceless (b ∷ bs) = not (eqb b 32) && spaceless bs
+spaceless f = list_all (λ b. not (eqb b 32)) f
 
 clean_word : (f : List ℕ) → spaceless f ≡ true → Spaceless f
 clean_word [] t = tt

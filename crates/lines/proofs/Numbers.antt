@@ -1,10 +1,9 @@
 -- Numbers written in digits, with or without a minus.
-use Rattle.std.proofs.Common.{◌≡◌, ℕ, zero, suc, ◌+◌, ◌-◌, ◌*◌, ◌^◌, ◌<◌, ◌≤◌, List, [], ◌∷◌, length, get_or, take, drop, ℤ, pos, negsuc, ◌-ℤ◌, nat_abs, Some, None, decimal, Option, sym, refl, ap, ◌∙◌, arith, w64, to_z, of_z}
+use Rattle.std.proofs.Common.{◌≡◌, ℕ, zero, suc, ◌+◌, ◌-◌, ◌*◌, ◌^◌, ◌<◌, ◌≤◌, List, [], ◌∷◌, length, get_or, take, drop, ℤ, pos, negsuc, nat_abs, Some, None, decimal, Option, sym, refl, ap, ◌∙◌, arith}
 use Rattle.std.proofs.lemmas.Fmt.{decimal_nonempty, decimal_digit, decimal-digits_value, digits_decimal, first_decimal, length-decimal-le, decimal_injective}
 use Rattle.std.proofs.lemmas.Int.Digits.{digits_more, digits_value_more}
 use Rattle.std.proofs.lemmas.List.{length-take-le, take_all}
 use Rattle.std.proofs.lemmas.Str.Parse.{IsNumeralModel, digit_at, numerals_by_value, tells_digits, digits_value_short}
-use Rattle.std.proofs.lemmas.Int.{ints}
 use Rattle.std.specs.Str.Parse.{AllDigits, digits_value}
 use Rattle.std.specs.Int.{IsInRange}
 use Rattle.std.specs.Char.{digit_value as digitValue}
@@ -64,9 +63,6 @@ digit_step ds i n d l h v e s =
     let w : digitValue (get_or ds i 0) ≡ d = digit_value (get_or ds i 0) d e s in
     (digits_more 10 ds i l h (omega arith), omega (arith, digits_value_more 10 ds i l))
 
-pub to_end : (ds : List ℕ) (i n : ℕ) → length ds ≤ i → AllDigits 10 (take i ds) → n ≡ digits_value 10 (take i ds) → AllDigits 10 ds × (n ≡ digits_value 10 ds)
-to_end ds i n l h v = let t = take_all i ds l in (rw t at h, v ∙ ap (digits_value 10) t)
-
 pub not_digits : (ds : List ℕ) (i : ℕ) (r : ByteClass) → i < length ds → Classed (get_or ds i 0) r → ((d : ℕ) → r ≡ Digit d → ⊥) → AllDigits 10 ds → ⊥
 not_digits ds i r l h other all = no_digit (get_or ds i 0) r h other (digit_at ds i all l)
 
@@ -93,9 +89,7 @@ pub minus_zero : (f ds : List ℕ) (z : ℕ) → f ≡ 45 ∷ ds → ds ≡ deci
 minus_zero f ds z m w o =
     minus_none f ds m (λ n l h e. omega (arith, decimal_injective z n (omega arith) (omega arith) (sym w ∙ e)))
 
-negative : (n : ℕ) → n < 10 ^ 10 → to_z w64 (of_z w64 (pos 0 -ℤ to_z w64 (suc n))) ≡ negsuc n
-negative n h = omega (arith, ints)
+-- what reading digits cites
+pub ruleset numerals = (numbered, too_long, too_short, zero_first, not_digits, so_far)
 
-pub minus_some : (f ds : List ℕ) (n : ℕ) → f ≡ 45 ∷ ds → (n ≡ 0 → ⊥) → n < 10 ^ 10 → ds ≡ decimal n → (nat_abs (to_z w64 (of_z w64 (pos 0 -ℤ to_z w64 n))) < 10 ^ 10) × (f ≡ signed_decimal (to_z w64 (of_z w64 (pos 0 -ℤ to_z w64 n))))
-minus_some f ds zero m z h e = absurd (z refl)
-minus_some f ds (suc n) m z h e = rw (negative n (omega arith)) (h, m ∙ ap (λ xs. 45 ∷ xs) e)
+pub ruleset minus = (minus_front, minus_none)

@@ -1,5 +1,5 @@
 -- What parsing a line comes to, by what was read of its first field and of the others.
-use Rattle.std.proofs.Common.{◌≡◌, ℕ, ◌+◌, ◌<◌, ◌≤◌, List, [], ◌∷◌, ◌++◌, length, Ok, Err, Result, sym, refl, ap, ◌∙◌, inl, inr, arith}
+use Rattle.std.proofs.Common.{◌≡◌, ℕ, ◌+◌, ◌<◌, ◌≤◌, List, [], ◌∷◌, ◌++◌, length, Ok, Err, Result, sym, refl, ap, ◌∙◌, inl, arith}
 use Rattle.house.specs.declared.phases.Bell.TheVariants as bells
 use Rattle.runs.specs.declared.calls.Call.TheVariants as calls
 use Rattle.lines.specs.declared.calls.LineCall.{LineCall}
@@ -8,10 +8,11 @@ use Rattle.lines.specs.declared.faults.NotRead.{NotRead}
 use Rattle.lines.specs.declared.names.Command.{Command}
 use Rattle.lines.specs.Fields.{fields, trailed}
 use Rattle.lines.specs.Names.{text}
-use Rattle.lines.specs.Places.{GoesOn, Lacks, Breaks, after, Missed, ReadBy}
+use Rattle.lines.specs.Places.{GoesOn, Lacks, Whole, Breaks, after, Missed, ReadBy}
 use Rattle.lines.specs.Spelled.{BriefCall, Named, Parsed, command, spelled, values}
 use Rattle.lines.proofs.Apart.{front_free, same_command}
 use Rattle.lines.proofs.Cuts.{joined}
+use Rattle.lines.proofs.Missing.{breaks_to}
 use Rattle.lines.proofs.Neat.{fields_written, written_short}
 use Rattle.lines.proofs.OnePlace.{refused}
 
@@ -37,23 +38,13 @@ goes_unnamed k good f g =
       writes = w;
     }
 
-breaks_named : (k : Command) (good rest : List (List ℕ)) (q p : ℕ) → Breaks values (Named k) good rest q p → Breaks spelled BriefCall (text k ∷ good) rest q p
-breaks_named k good [] q p b = (record { field = b.0.field; goes = goes_named k good b.0.field b.0.goes }, b.1)
-breaks_named k good (f ∷ more) q p (inl b) =
-    inl (
-      record { field = b.0.field; goes = goes_named k good b.0.field b.0.goes },
-      (λ g. b.1 (goes_unnamed k good f g)),
-      b.2,
-    )
-breaks_named k good (f ∷ more) q p (inr b) =
-    inr (
-      record {
-        meant = b.0.meant;
-        holds = b.0.holds.brief;
-        writes = ap (λ j. text j ∷ values b.0.meant) b.0.holds.named ∙ ap (λ xs. text k ∷ xs) b.0.writes;
-      },
-      b.1,
-    )
+whole_named : (k : Command) (good : List (List ℕ)) → Whole values (Named k) good → Whole spelled BriefCall (text k ∷ good)
+whole_named k good w =
+    record {
+      meant = w.meant;
+      holds = w.holds.brief;
+      writes = ap (λ j. text j ∷ values w.meant) w.holds.named ∙ ap (λ xs. text k ∷ xs) w.writes;
+    }
 
 missed_named : (k : Command) (all left : List (List ℕ)) → all ≡ text k ∷ left → (q p : ℕ) → q ≡ 0 + (length (text k) + 1) → Missed values (Named k) left q p → Missed spelled BriefCall all 0 p
 missed_named k all left e q p n m =
@@ -62,7 +53,9 @@ missed_named k all left e q p n m =
       good = text k ∷ m.good;
       rest = m.rest;
       parts = e ∙ ap (λ xs. text k ∷ xs) m.parts;
-      breaks = breaks_named k m.good m.rest (after m.good (0 + (length (text k) + 1))) p b;
+      breaks =
+          breaks_to values (Named k) spelled BriefCall m.good (text k ∷ m.good) (goes_named k m.good) (goes_unnamed k m.good)
+          (whole_named k m.good) m.rest (after m.good (0 + (length (text k) + 1))) p b;
     }
 
 -- ---- a line of at most 200 bytes that is missed

@@ -15,11 +15,12 @@ use Rattle.lines.specs.Names.{text}
 use Rattle.lines.specs.Spelled.{Alone, BriefCall, Parsed, Place, Within, bell_word, command, edition_word, spelled, values, written}
 use Rattle.lines.specs.Values.{Brief, BriefIf, mark, signed_if}
 use Rattle.lines.proofs.Apart.{front_free, same_command}
-use Rattle.lines.proofs.Ends.{place_within}
+use Rattle.lines.proofs.Ends.{place_within, fields_end}
 use Rattle.lines.proofs.Made.{Sort, Tuple, Value, bell, call_of, edition, flag, made, made_named, number, number_if, sorts, tuple_lawful, tuple_spelt, value_lawful, value_spelt}
 use Rattle.lines.proofs.Neat.{fields_written, written_short}
 use Rattle.lines.proofs.Numbers.{first_digit}
 use Rattle.lines.proofs.OnePlace.{one_place}
+use Rattle.lines.proofs.Parsings.{parsed_long, parsed_read, parsed_unknown}
 
 -- ---- values
 
@@ -103,3 +104,5 @@ parsed_alone line (Err e) h = λ p a. place_one line p e.place a h.1
 pub parsed_within : (line : List ℕ) (r : Result LineCall NotRead) → Parsed line r → Within line r
 parsed_within line (Ok c) h = omega (arith, ap length h.1, written_short c h.0)
 parsed_within line (Err e) h = place_within line e.place h.1
+
+pub ruleset grammar = (written_short, written_apart, place_one, fields_end, parsed_alone, parsed_within, parsed_long, parsed_unknown, parsed_read)

@@ -6,7 +6,7 @@ use Rattle.book.specs.declared.entries.Kind.TheVariants as kinds
 use Rattle.house.specs.declared.phases.Bell.{Bell}
 use Rattle.house.specs.declared.phases.Bell.TheVariants as bells
 use Rattle.rows.specs.declared.places.Edition.{Edition}
-use Rattle.rows.specs.declared.places.Edition.TheVariants as editions
+use Rattle.rows.specs.Editions.{name}
 use Rattle.runs.specs.declared.calls.Call.TheVariants as calls
 use Rattle.lines.specs.declared.calls.LineCall.{LineCall}
 use Rattle.lines.specs.declared.calls.LineCall.TheVariants as lines
@@ -42,9 +42,9 @@ abbrev pub bell_word : Bell → List ℕ
 bell_word bells.Open = codes "open"
 bell_word bells.Close = codes "close"
 
+-- as the edition is printed
 abbrev pub edition_word : Edition → List ℕ
-edition_word editions.Close = codes "close"
-edition_word editions.Morning = codes "morning"
+edition_word = name
 
 abbrev pub kind_values : Kind → List (List ℕ)
 kind_values (kinds.Trade p n) = signed_decimal p ∷ signed_decimal n ∷ []

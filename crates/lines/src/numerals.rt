@@ -1,4 +1,6 @@
 // Numbers as digits.
+#![tactic(auto, using(crate::proofs::Numbers::numerals))]
+
 ghost use Rattle.std.specs.Prelude.{◌≤◌, length};
 ghost use Rattle.lines.specs.Values.{Numbered, Valued};
 
@@ -11,6 +13,7 @@ fn value_of(digits: &[u8]) -> Option<u64>
     requires { length digits.now ≤ 10 }
     ensures { Valued digits.now result }
 {
+    // A loop, since it ends early and each byte is first told by its class: a `try_fold` would be no plainer.
     let mut n = 0;
     for byte in digits {
         let ByteClass::Digit(d) = class_of(*byte) else {

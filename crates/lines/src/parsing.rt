@@ -1,5 +1,5 @@
 // A line read by the values of its command.
-#![tactic(auto, using(crate::proofs::Made::missed_call))]
+#![tactic(auto, using(crate::proofs::Made::missed_call, crate::proofs::Writings::grammar))]
 
 ghost use Rattle.std.specs.Prelude.{◌≡◌};
 ghost use Rattle.lines.specs.Reading.{ReadFrom};
@@ -22,11 +22,9 @@ use rows::places::{Edition, Marks};
 use runs::calls::Call;
 
 // The values of a line as nested pairs, as they are read.
-type Deal = (i64, (i64, (i64, (i64, ()))));
+type Four = (i64, (i64, (i64, (i64, ()))));
 
-type FourTicks = (i64, (i64, (i64, (i64, ()))));
-
-type DayFields = (i64, (i64, (i64, (i64, (i64, FourTicks)))));
+type DayFields = (i64, (i64, (i64, (i64, (i64, Four)))));
 
 type Previous = (
     Option<i64>,
@@ -90,21 +88,21 @@ fn entry(series: i64, stamp: i64, kind: Kind) -> LineCall
 fn read_trade(reader: &mut Reader<'_>) -> Result<LineCall, NotRead>
     ensures { ReadFrom values (Named commands.Trade) reader.old result }
 {
-    let (series, (stamp, (price, (lots, ())))) = Deal::from_fields(reader)?;
+    let (series, (stamp, (price, (lots, ())))) = Four::from_fields(reader)?;
     Ok(entry(series, stamp, Kind::Trade { price, lots }))
 }
 
 fn read_auction(reader: &mut Reader<'_>) -> Result<LineCall, NotRead>
     ensures { ReadFrom values (Named commands.Auction) reader.old result }
 {
-    let (series, (stamp, (price, (lots, ())))) = Deal::from_fields(reader)?;
+    let (series, (stamp, (price, (lots, ())))) = Four::from_fields(reader)?;
     Ok(entry(series, stamp, Kind::Auction { price, lots }))
 }
 
 fn read_leg(reader: &mut Reader<'_>) -> Result<LineCall, NotRead>
     ensures { ReadFrom values (Named commands.Leg) reader.old result }
 {
-    let (series, (stamp, (price, (lots, ())))) = Deal::from_fields(reader)?;
+    let (series, (stamp, (price, (lots, ())))) = Four::from_fields(reader)?;
     Ok(entry(series, stamp, Kind::Leg { price, lots }))
 }
 

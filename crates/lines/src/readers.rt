@@ -4,6 +4,7 @@ ghost use Rattle.std.specs.Prelude.{◌≤◌, length};
 // The longest line that can be of the grammar.
 pub const LONGEST: usize = 200;
 
+// The whole line and a place in it, since a refusal tells the place: what is left alone would not.
 #[derive(Drop)]
 pub struct Reader<'a> {
     pub line: &'a [u8],

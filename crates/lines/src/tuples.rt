@@ -7,6 +7,7 @@ use crate::faults::NotRead;
 use crate::readers::Reader;
 use crate::values::FromField;
 
+// A trait of its own, as `FromField` is, and beside it: a list of values is written in fields, a value in bytes.
 pub trait FromFields: Sized {
     // How the values are written, and which may be.
     ghost spelt: { Self → List (List ℕ) };
@@ -52,6 +53,7 @@ impl<T: FromField + Drop, R: FromFields> FromFields for (T, R) {
 
     fn from_fields(reader: &mut Reader<'_>) -> Result<(T, R), NotRead> {
         let end = reader.at as u8;
+        // Each `let .. else` tells its refusal where it comes about; an `ok_or` would be no plainer.
         let Some(field) = reader.next_field() else {
             return Err(NotRead { place: end });
         };

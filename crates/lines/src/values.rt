@@ -1,4 +1,6 @@
 // Values, each in one field.
+#![tactic(auto, using(crate::proofs::Numbers::minus))]
+
 ghost use Rattle.std.specs.Prelude.{ℕ, false, List, pos, None};
 ghost use Rattle.std.specs.Fmt.{signed_decimal};
 ghost use Rattle.lines.specs.Values.{Brief, BriefIf, FieldBy, mark, signed_if};

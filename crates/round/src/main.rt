@@ -9,6 +9,7 @@ use ladders::sets::{EvenSet, LadderSet, SteppedSet};
 use std::alloc::{AllocError, Global};
 use std::io;
 use std::io::{BufRead, BufReader};
+use std::iter::once;
 
 // The numbers of a ladder's description, in their order; nothing where a word is no number.
 fn numbers(heap: Global, text: &str) -> Result<Option<Vec<i64>>, AllocError> {
@@ -17,23 +18,26 @@ fn numbers(heap: Global, text: &str) -> Result<Option<Vec<i64>>, AllocError> {
         .collect(heap)
 }
 
+// A band with a start, from its start and its tick.
+fn later_band([start, tick]: &[i64; 2]) -> Band {
+    Band {
+        start: Some(*start),
+        tick: *tick,
+    }
+}
+
 // The bands of a description: a tick, then a start and a tick for each later band.
 fn bands(heap: Global, ladder: &[i64]) -> Result<Vec<Band>, AllocError> {
-    let mut found = Vec::new(heap);
-    let [first, later @ ..] = ladder else {
-        return Ok(found);
+    let Some((first, later)) = ladder.split_first() else {
+        return Ok(Vec::new(heap));
     };
-    found.push(Band {
+    let head = Band {
         start: None,
         tick: *first,
-    })?;
-    for [start, tick] in later.as_chunks::<2>().0 {
-        found.push(Band {
-            start: Some(*start),
-            tick: *tick,
-        })?;
-    }
-    Ok(found)
+    };
+    once(head)
+        .chain(later.as_chunks::<2>().0.iter().map(later_band))
+        .collect(heap)
 }
 
 // A number or a fraction, as numerator and denominator.

@@ -1,5 +1,8 @@
 -- The rules of rows: one test, computed over all rows, and carried to each.
-use Rattle.std.proofs.Common.{◌≡◌, ℕ, zero, suc, ◌-◌, ◌<◌, ◌≤◌, Bool, true, false, not, ◌&&◌, ◌||◌, eqb, leb, List, [], ◌∷◌, length, get_or, Some, None, Option, sym, refl, ap, ◌∙◌, subst, arith}
+use Rattle.std.proofs.Common.{◌≡◌, ℕ, zero, suc, ◌-◌, ◌<◌, ◌≤◌, Bool, true, false, not, ◌&&◌, eqb, leb, List, [], ◌∷◌, length, get_or, Some, None, Option, sym, refl, ap, ◌∙◌, subst, arith}
+use Rattle.std.proofs.lemmas.List.Sums.{AllPass-from_list_all}
+use Rattle.std.proofs.lemmas.Option.{none-some}
+use Rattle.std.specs.List.{list_all, list_any}
 use Rattle.std.proofs.lemmas.Bool.{and_parts, or_parts, not-true, leb-true, eq-eqb, true≢false, false≢true}
 use Rattle.rows.specs.Codes.{at, code, choices, choice_number}
 use Rattle.rows.specs.Families.{all_families, number}
@@ -14,8 +17,7 @@ use Rattle.rows.specs.declared.places.Place.{Place}
 -- ---- the test of a row
 
 abbrev stands : Place → List Place → Bool
-stands p [] = false
-stands p (q ∷ qs) = eqb (code p) (code q) || stands p qs
+stands p ps = list_any (λ q. eqb (code p) (code q)) ps
 
 abbrev distinct : List Place → Bool
 distinct [] = true
@@ -28,20 +30,16 @@ fits false None = true
 fits false (Some w) = false
 
 abbrev all_fit : List Place → Bool
-all_fit [] = true
-all_fit (p ∷ ps) = fits (looks p.step) p.window && all_fit ps
+all_fit ps = list_all (λ p. fits (looks p.step) p.window) ps
 
 abbrev passes : List Place → Bool
 passes ps = leb (length ps) 6 && (distinct ps && all_fit ps)
 
 -- ---- what it tells
 
-some_is_not_none : (p : Place) → None ≡ Some p → ⊥
-some_is_not_none p e = let z : ◌≡◌ {A = ℕ} 0 1 = cc in omega arith
-
 gapless : (ps : List Place) (j k : ℕ) → j ≤ k → at ps j ≡ None → at ps k ≡ None
 gapless [] j k h e = refl
-gapless (p ∷ ps) zero k h e = absurd (some_is_not_none p (sym e))
+gapless (p ∷ ps) zero k h e = absurd (none-some p (sym e))
 gapless (p ∷ ps) (suc j) zero h e = absurd (omega arith)
 gapless (p ∷ ps) (suc j) (suc k) h e = gapless ps j k (omega arith) e
 
@@ -52,7 +50,7 @@ past_end (p ∷ ps) (suc k) h = past_end ps k (omega arith)
 
 -- a place that stands in a row is found there
 found : (ps : List Place) (k : ℕ) (p : Place) → at ps k ≡ Some p → stands p ps ≡ false → ⊥
-found [] k p e none = some_is_not_none p e
+found [] k p e none = none-some p e
 found (q ∷ qs) zero p e none =
     let same : q ≡ p = cc in
     let codes = or_parts (eqb (code p) (code q)) (stands p qs) none in
@@ -60,7 +58,7 @@ found (q ∷ qs) zero p e none =
 found (q ∷ qs) (suc k) p e none = found qs k p e (or_parts (eqb (code p) (code q)) (stands p qs) none).1
 
 once : (ps : List Place) → distinct ps ≡ true → (j k : ℕ) (p : Place) → at ps j ≡ Some p → at ps k ≡ Some p → j ≡ k
-once [] d j k p a b = absurd (some_is_not_none p a)
+once [] d j k p a b = absurd (none-some p a)
 once (q ∷ qs) d zero zero p a b = refl
 once (q ∷ qs) d zero (suc k) p a b =
     let same : q ≡ p = cc in
@@ -77,7 +75,7 @@ fitting false None e = tt
 fitting false (Some w) e = false≢true e
 
 windows : (ps : List Place) → all_fit ps ≡ true → (k : ℕ) (p : Place) → at ps k ≡ Some p → Fitting (looks p.step) p.window
-windows [] f k p e = absurd (some_is_not_none p e)
+windows [] f k p e = absurd (none-some p e)
 windows (q ∷ qs) f zero p e =
     let same : q ≡ p = cc in
     subst (λ (x : Place). Fitting (looks x.step) x.window) same (fitting (looks q.step) q.window (and_parts (fits (looks q.step) q.window) (all_fit qs) f).0)
@@ -91,16 +89,8 @@ lawful ps e =
 
 -- ---- over all rows
 
-abbrev every : {X : Type 0} → (X → Bool) → List X → Bool
-every test [] = true
-every test (x ∷ xs) = test x && every test xs
-
-every_at : {X : Type 0} (test : X → Bool) (xs : List X) (k : ℕ) (d : X) → every test xs ≡ true → k < length xs → test (get_or xs k d) ≡ true
-every_at test [] k d e h = absurd (omega arith)
-every_at test (x ∷ xs) zero d e h = (and_parts (test x) (every test xs) e).0
-every_at test (x ∷ xs) (suc k) d e h = every_at test xs k d (and_parts (test x) (every test xs) e).1 (omega arith)
-
-all_pass : every (λ f. every (λ c. passes (row f c)) choices) all_families ≡ true
+-- the rules hold of every row of every family, computed at once
+all_pass : list_all (λ f. list_all (λ c. passes (row f c)) choices) all_families ≡ true
 all_pass = refl
 
 family_at : (f : Family) → (get_or all_families (number f - 1) LongBond ≡ f) × ((1 ≤ number f) × (number f ≤ 15))
@@ -130,6 +120,6 @@ pub row_lawful : (f : Family) (c : Choice) → RowLawful (row f c)
 row_lawful f c =
     let fam = family_at f in
     let cho = choice_at c in
-    let rows = every_at (λ g. every (λ d. passes (row g d)) choices) all_families (number f - 1) LongBond all_pass (omega arith) in
-    let here = subst (λ (g : Family). every (λ d. passes (row g d)) choices ≡ true) fam.0 rows in
-    lawful (row f c) (subst (λ (d : Choice). passes (row f d) ≡ true) cho.0 (every_at (λ d. passes (row f d)) choices (choice_number c) Close here cho.1))
+    let rows = AllPass-from_list_all (λ g. list_all (λ d. passes (row g d)) choices) all_families all_pass (number f - 1) LongBond (omega arith) in
+    let here = subst (λ (g : Family). list_all (λ d. passes (row g d)) choices ≡ true) fam.0 rows in
+    lawful (row f c) (subst (λ (d : Choice). passes (row f d) ≡ true) cho.0 (AllPass-from_list_all (λ d. passes (row f d)) choices here (choice_number c) Close cho.1))

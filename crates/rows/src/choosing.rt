@@ -24,16 +24,16 @@ pub fn choose(family: Family, marks: Marks, edition: Edition) -> Choice
 {
     match edition {
         Edition::Close => {
-            if marks.last_day & minds_last_day(family) {
+            if marks.last_day && minds_last_day(family) {
                 Choice::LastDay
-            } else if marks.quarter_end & minds_quarter_end(family) {
+            } else if marks.quarter_end && minds_quarter_end(family) {
                 Choice::QuarterEnd
             } else {
                 Choice::Close
             }
         }
         Edition::Morning => {
-            if marks.quarter_end & matches!(family, Family::NearOption) {
+            if marks.quarter_end && family == Family::NearOption {
                 Choice::QuarterEnd
             } else {
                 Choice::Morning

@@ -1,6 +1,6 @@
 // The rows of all families as one table of codes: four rows a family (close, last-day close, quarter-end close, morning),
 // six places a row.
-ghost use Rattle.std.specs.Prelude.{◌≡◌, ℕ, None, slice_index, slice_index_or};
+ghost use Rattle.std.specs.Prelude.{◌≡◌, ℕ, ◌≤◌, None, slice_index, slice_index_or};
 ghost use Rattle.rows.specs.Codes.{at, code_at, decoded, steps, window_of};
 ghost use Rattle.rows.specs.RowRules.{RowLawful};
 ghost use Rattle.rows.specs.Rows.{row};
@@ -9,8 +9,8 @@ use crate::families::Family;
 use crate::places::{Choice, Place};
 use crate::steps::Step;
 
-// The code of a step; one that looks in a window has the window's number added. Codes and not places: the rules of the project
-// ask for the rows as one constant table of codes.
+// The code of a step; one that looks in a window has the window's number added. Codes and not places: the rows are one constant
+// table of codes, so that each stands on a line, as a clerk compares it.
 const NONE: u8 = 0;
 
 const A: u8 = 16;
@@ -173,9 +173,10 @@ fn decode(code: u8) -> Option<Place>
     })
 }
 
-// The places of a row, with nothing past its end.
+// The places of a row, with nothing past its end. An array, since nothing here allocates.
 pub fn places(family: Family, choice: Choice) -> [Option<Place>; 6]
     ensures value { (k : ℕ) → slice_index_or result k None ≡ at (row family choice) k }
+    ensures gapless { (j k : ℕ) → j ≤ k → slice_index_or result j None ≡ None → slice_index_or result k None ≡ None }
     ensures lawful { RowLawful (row family choice) }
 {
     codes(family, choice).map(decode)

@@ -142,6 +142,45 @@ mod tests {
         Ok(())
     }
 
+    // A quote's ask and a trade are raised; the quote decides.
+    #[test]
+    fn raised_quotes_lower_no_answer(rt: HostRuntime) -> Result<(), Fail> {
+        let quote = |ask| {
+            enter(
+                0,
+                Kind::Quote {
+                    bid: Some(100),
+                    ask: Some(ask),
+                },
+            )
+        };
+        let calls = [list(10, None), OPEN, quote(120), trade(0, 90), CLOSE];
+        let others = [list(10, None), OPEN, quote(130), trade(0, 110), CLOSE];
+        let (first, second) = both(&calls, &others, 0)?;
+        assert_eq!(rt; first, settled(110, Step::Quote, 2));
+        assert_eq!(rt; second, settled(120, Step::Quote, 2));
+        Ok(())
+    }
+
+    // A trade stands among further ones, and an auction comes before it.
+    #[test]
+    fn more_entries_settle_no_later(rt: HostRuntime) -> Result<(), Fail> {
+        let auction = enter(0, Kind::Auction { price: 80, lots: 2 });
+        let calls = [list(3, None), OPEN, trade(0, 50), CLOSE];
+        let others = [
+            list(3, None),
+            OPEN,
+            trade(0, 40),
+            trade(0, 50),
+            auction,
+            CLOSE,
+        ];
+        let (first, second) = both(&calls, &others, 0)?;
+        assert_eq!(rt; first, settled(50, Step::Trade, 3));
+        assert_eq!(rt; second, settled(80, Step::Auction, 1));
+        Ok(())
+    }
+
     // An auction in the afternoon comes before the theory value.
     #[test]
     fn more_evidence_settles_no_later(rt: HostRuntime) -> Result<(), Fail> {

@@ -1,7 +1,8 @@
 -- Two runs compared, by the calls taken in each.
-use Rattle.std.proofs.Common.{◌≡◌, ℕ, ◌+◌, Bool, true, false, ◌||◌, List, [], ◌∷◌, map, length, ℤ, pos, nat_abs, Ok, Err, fold, Result, sym, refl, ap, ◌∙◌, subst, add-zero, arith}
+use Rattle.std.proofs.Common.{◌≡◌, ℕ, ◌+◌, Bool, true, ◌||◌, List, [], ◌∷◌, map, length, ℤ, pos, nat_abs, Ok, Err, fold, Result, sym, refl, ap, ◌∙◌, subst, add-zero, arith}
 use Rattle.std.specs.List.{AllZip, AllByRecursion}
-use Rattle.std.proofs.lemmas.Bool.{and_parts, cond-true, eq-eqb}
+use Rattle.std.proofs.lemmas.Bool.{and_parts, cond-true, eq-eqb, or_right}
+use Rattle.std.proofs.lemmas.List.Elements.{same_from_all_zip}
 use Rattle.book.specs.Bounds.{bounded}
 use Rattle.book.specs.Entries.{allowed}
 use Rattle.book.specs.Figures.{empty, entered_in, is_series, values}
@@ -89,22 +90,12 @@ each_on_path : (before ns : List ℕ) → ((k : ℕ) → on_path ns (pos k) ≡ 
 each_on_path before [] inside = tt
 each_on_path before (n ∷ ns) inside =
     let here : on_path (n ∷ ns) (pos n) ≡ true = ap (λ b. b || on_path ns (pos n)) (eq-eqb n n refl) in
-    (inside n here, each_on_path before ns (λ k h. inside k (or_later (is_series n (pos k)) (on_path ns (pos k)) h)))
-  where
-    or_later : (a b : Bool) → b ≡ true → (a || b) ≡ true
-    or_later true b h = refl
-    or_later false b h = h
+    (inside n here, each_on_path before ns (λ k h. inside k (or_right (is_series n (pos k)) (on_path ns (pos k)) h)))
 
 -- what holds of each number of a path pairs the stations of two lists of calls
 pairs : (A : ℕ → Type 0) (R : Station → Station → Type 0) (f g : ℕ → Station) (path ns : List ℕ) → ((k : ℕ) → A k → on_path path (pos k) ≡ true → R (f k) (g k)) → AllByRecursion A ns → AllByRecursion (λ k. on_path path (pos k) ≡ true) ns → AllZip R (map f ns) (map g ns)
 pairs A R f g path [] each a on = tt
 pairs A R f g path (n ∷ ns) each a on = (each n a.0 on.0, pairs A R f g path ns each a.1 on.1)
-
-each_equal : (xs ys : List Station) → AllZip ◌≡◌ xs ys → xs ≡ ys
-each_equal [] [] e = refl
-each_equal [] (y ∷ ys) e = absurd e
-each_equal (x ∷ xs) [] e = absurd e
-each_equal (x ∷ xs) (y ∷ ys) e = λ i. e.0 i ∷ each_equal xs ys e.1 i
 
 abbrev tail : List ℕ → List ℕ
 tail [] = []
@@ -131,8 +122,8 @@ module _ (d : Day) (j k ladders others : ℕ) (P : ℕ → ℤ → Bool) (calls 
       let ps = path_pairs d n first second (λ q. stands first q ≡ stands second q) ◌≡◌
       (λ q s on i. record { number = q; series = s i; figures = λ v. values (same_figures d (path_of first n) (entries first) (entries second) q v e.evidence on i) })
       e.terms e.numbers in
-      let rest = each_equal (map (spot d first) (references (stands first) n)) (map (spot d second) (references (stands second) n)) ps.1 in
-      λ i. settled P ed (ps.0 i) (rest i)
+      let rest = same_from_all_zip ◌≡◌ (map (spot d first) (references (stands first) n)) (map (spot d second) (references (stands second) n)) ps.1 (λ x y same. sym same) in
+      λ i. settled P ed (ps.0 i) (sym rest i)
 
   raised_told : ((l : ℕ) (z : ℤ) → Near (P l) z) → RaisedEvidence n first second → NotLower (told P ed d first n) (told P ed d second n)
   raised_told near e =

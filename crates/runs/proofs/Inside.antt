@@ -1,29 +1,15 @@
 -- What a lawful station rounds lies inside the price limit.
-use Rattle.std.proofs.Common.{◌≡◌, ℕ, ◌*◌, ◌≤◌, Bool, true, false, ◌&&◌, ltb, leb, ℤ, pos, negsuc, ◌+ℤ◌, ◌*ℤ◌, nat_abs, ◌≤ℤ◌, refl, ap, ◌∙◌, arith}
+use Rattle.std.proofs.Common.{◌≡◌, ℕ, ◌*◌, ◌≤◌, true, ◌&&◌, ltb, ℤ, pos, negsuc, ◌+ℤ◌, ◌*ℤ◌, nat_abs, ap, ◌∙◌, arith}
 use lib.Signed.{le_z}
+use Rattle.std.proofs.Math.Bool.{and-true}
 use Rattle.std.proofs.lemmas.Int.{ints}
-use Rattle.std.proofs.lemmas.Bool.{and_from, and_parts, leb-true}
-use Rattle.book.specs.Bounds.{bounded, sides_if, spread_if, sums_within}
-use Rattle.book.specs.Entries.{price_lawful, side_lawful}
+use Rattle.std.proofs.lemmas.Bool.{and_from}
+use Rattle.book.specs.Bounds.{bounded}
+use Rattle.book.specs.Entries.{price_lawful}
 use Rattle.book.specs.declared.marks.Values.{Values}
+use Rattle.book.proofs.Growth.{parts}
 use Rattle.ladders.specs.Fractions.{inside}
-use Rattle.ladders.specs.Orders.{le_from_test, within_range}
-use Rattle.house.specs.Series.{integer_if, lawful_ruling, lawful_series}
-use Rattle.house.specs.Terms.{lawful_terms}
-use Rattle.house.specs.declared.series.Series.{Series}
-
--- ---- what lies within limits
-
-pub theory_lawful : (n : ℕ) (s : Series) → lawful_series n s ≡ true → side_lawful s.theory ≡ true
-theory_lawful n s h =
-    (and_parts (side_lawful s.theory) (lawful_ruling s.ruling)
-    (and_parts (lawful_terms s.terms.family n (integer_if s.terms.reference) s.terms.settlement s.terms.spread) (side_lawful s.theory && lawful_ruling s.ruling) h).1).0
-
-pub quote_lawful : (k : ℕ) (v : Values) → bounded k v ≡ true → sides_if v.quote ≡ true
-quote_lawful k v h =
-    let last = (and_parts (sums_within k v.lots v.money) ((side_lawful v.trade && side_lawful v.auction) && (spread_if v.spread && sides_if v.quote)) h).1 in
-    (and_parts (spread_if v.spread) (sides_if v.quote)
-    (and_parts (side_lawful v.trade && side_lawful v.auction) (spread_if v.spread && sides_if v.quote) last).1).1
+use Rattle.ladders.specs.Orders.{within_range}
 
 -- ---- a price, and the middle of two, is inside
 
@@ -38,25 +24,11 @@ middle_inside b a h k =
 
 -- ---- the sums
 
-sums_kept : (k : ℕ) (v : Values) → bounded k v ≡ true → sums_within k v.lots v.money ≡ true
-sums_kept k v h = (and_parts (sums_within k v.lots v.money) ((side_lawful v.trade && side_lawful v.auction) && (spread_if v.spread && sides_if v.quote)) h).0
-
-pub lots_kept : (k : ℕ) (v : Values) → bounded k v ≡ true → pos 0 ≤ℤ v.lots
-lots_kept k v h =
-    let range = (and_parts (le_z (pos 0) v.lots && le_z v.lots (pos (k * 100000))) (leb (nat_abs v.money) (nat_abs v.lots * 1000000000)) (sums_kept k v h)).0 in
-    le_from_test (pos 0) v.lots (and_parts (le_z (pos 0) v.lots) (le_z v.lots (pos (k * 100000))) range).0
-
 within_lots : (m : ℤ) (d : ℕ) → nat_abs m ≤ d * 1000000000 → inside m d ≡ ltb 0 d
 within_lots m d h =
     ap (λ t. ltb 0 d && t) (and_from (le_z (negsuc 999999999 *ℤ pos d) m) (le_z m (pos 1000000000 *ℤ pos d)) (grind (arith, ints)) (grind (arith, ints)))
-    ∙ and_true (ltb 0 d)
-  where
-    and_true : (b : Bool) → (b && true) ≡ b
-    and_true true = refl
-    and_true false = refl
+    ∙ and-true (ltb 0 d)
 
 -- there is an average wherever there are lots
 pub average_inside : (k : ℕ) (v : Values) → bounded k v ≡ true → inside v.money (nat_abs v.lots) ≡ ltb 0 (nat_abs v.lots)
-average_inside k v h =
-    let money = (and_parts (le_z (pos 0) v.lots && le_z v.lots (pos (k * 100000))) (leb (nat_abs v.money) (nat_abs v.lots * 1000000000)) (sums_kept k v h)).1 in
-    within_lots v.money (nat_abs v.lots) (leb-true (nat_abs v.money) (nat_abs v.lots * 1000000000) money)
+average_inside k v h = within_lots v.money (nat_abs v.lots) (parts k v h).dear

@@ -6,6 +6,7 @@ use Rattle.std.proofs.lemmas.Int.{ints}
 use Rattle.std.proofs.lemmas.Bool.{lt-ltb, ltb-true}
 use Rattle.book.specs.Bounds.{bounded}
 use Rattle.book.specs.declared.marks.Values.{Values}
+use Rattle.book.proofs.Growth.{parts}
 use Rattle.ladders.specs.Fractions.{inside}
 use Rattle.ladders.specs.Values.{nearest_of, nearest_price}
 use Rattle.rows.specs.declared.places.Edition.{Edition}
@@ -22,7 +23,7 @@ use Rattle.runs.specs.Raised.{Matched}
 use Rattle.runs.specs.Stations.{NoLater}
 use Rattle.runs.proofs.AddedFigures.{StillThere, ValuesMore}
 use Rattle.runs.proofs.Along.{LawfulPair, StationLawful, along, lawful_pairs}
-use Rattle.runs.proofs.Inside.{average_inside, lots_kept}
+use Rattle.runs.proofs.Inside.{average_inside}
 
 -- the same number and series, and in each window no fewer figures
 pub record StationMore (x y : Station) : Type 0 where
@@ -43,7 +44,7 @@ some_nearest P n d = by (inside n d)
 average_more : (P : ℤ → Bool) (k l : ℕ) (v w : Values) → bounded k v ≡ true → bounded l w ≡ true → v.lots ≤ℤ w.lots → StillThere (average P v.money v.lots) (average P w.money w.lots)
 average_more P k l v w h m more there =
     let some = ltb-true 0 (nat_abs v.lots) (sym (average_inside k v h) ∙ (sym (some_nearest P v.money (nat_abs v.lots)) ∙ there)) in
-    let none_negative = lots_kept k v h in
+    let none_negative = (parts k v h).some in
     some_nearest P w.money (nat_abs w.lots) ∙ (average_inside l w m ∙ lt-ltb 0 (nat_abs w.lots) (omega (arith, ints)))
 
 less_more : (r q s t : Option ℤ) → StillThere r q → StillThere s t → StillThere (less r s) (less q t)

@@ -3,7 +3,7 @@ use Rattle.std.proofs.Common.{◌≡◌, ℕ, ◌+◌, ◌<◌, ◌≤◌, Bool,
 use lib.Signed.{le_z}
 use Rattle.std.proofs.lemmas.List.{append-nil, get_or_append_left, get_or_past, get_or_push, flat_map_more, length_push}
 use Rattle.std.proofs.lemmas.List.Sums.{fold_push}
-use Rattle.std.proofs.lemmas.Bool.{and_from, and_parts, cases_eq, cases_lt, cond_both, cond-false, cond-true, eq-eqb, ltb-true, ne_eqb, true≢false}
+use Rattle.std.proofs.lemmas.Bool.{and_parts, cases_eq, cases_lt, cond_both, cond-false, cond-true, eq-eqb, ltb-true, ne_eqb, true≢false}
 use Rattle.book.specs.Entries.{allowed, side_lawful}
 use Rattle.book.specs.Figures.{is_series}
 use Rattle.book.specs.Ledgers.{Ledger, answer, grown}
@@ -27,7 +27,7 @@ use Rattle.house.specs.declared.series.Series.{Series}
 use Rattle.house.specs.declared.terms.Listing.{Listing}
 use Rattle.house.specs.declared.terms.Terms.{Terms}
 use Rattle.house.proofs.Admitted.{Admitted, listed_lawful}
-use Rattle.house.proofs.Slots.{lawful_supplied}
+use Rattle.house.proofs.Slots.{lawful_ruled, lawful_theory}
 use Rattle.runs.specs.Readings.{entries, entries_in, last_ruling, last_theory, listed, ruling_left, stands, terms_by, terms_in, theory_left}
 use Rattle.runs.specs.Runs.{World, is_taken, new_world, next}
 use Rattle.runs.specs.Told.{BookTold, RollTold, Told}
@@ -210,7 +210,7 @@ told_theory xs z value s ok t =
     let f = found (theory_answer z value s) ok in
     subst (λ (a : Result Unit HouseFault). RollTold (xs ++ (c ∷ [])) (moved a (λ _. record { phase = s.phase; roll = changed k (with_theory value x) r }) s).roll) (sym f.1)
     (roll_changed xs c r k (with_theory value x) refl number.0
-    (lawful_supplied k x value x.ruling (t.lawful k) (λ h. and_from (side_lawful value) (lawful_ruling x.ruling) met.1 (and_parts (side_lawful x.theory) (lawful_ruling x.ruling) h).1))
+    (lawful_theory k x value (t.lawful k) met.1)
     (ap (with_theory value) (t.series k) ∙ sym (stands_with xs c k value (last_ruling k xs) refl (cond-true (is_series k z) value (last_theory k xs) number.1) refl))
     (λ n o. stands_with xs c n (last_theory n xs) (last_ruling n xs) refl (cond-false (is_series n z) value (last_theory n xs) (other_number z n o)) refl)
     t)
@@ -231,7 +231,7 @@ told_ruling xs z value first s ok t =
     let f = found (ruling_answer z value first s) ok in
     subst (λ (a : Result Unit HouseFault). RollTold (xs ++ (c ∷ [])) (moved a (λ _. record { phase = s.phase; roll = changed k (with_ruling ruling x) r }) s).roll) (sym f.1)
     (roll_changed xs c r k (with_ruling ruling x) refl number.0
-    (lawful_supplied k x x.theory ruling (t.lawful k) (λ h. and_from (side_lawful x.theory) (lawful_ruling ruling) (and_parts (side_lawful x.theory) (lawful_ruling x.ruling) h).0 (ruling_lawful value first met.1)))
+    (lawful_ruled k x ruling (t.lawful k) (ruling_lawful value first met.1))
     (ap (with_ruling ruling) (t.series k) ∙ sym (stands_with xs c k (last_theory k xs) ruling refl refl (cond-true (is_series k z) ruling (last_ruling k xs) number.1)))
     (λ n o. stands_with xs c n (last_theory n xs) (last_ruling n xs) refl refl (cond-false (is_series n z) ruling (last_ruling n xs) (other_number z n o)))
     t)

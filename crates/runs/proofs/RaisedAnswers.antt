@@ -8,6 +8,8 @@ use Rattle.book.specs.Bounds.{bounded, sides_if}
 use Rattle.book.specs.Entries.{side_lawful}
 use Rattle.book.specs.declared.marks.Sides.{Sides}
 use Rattle.book.specs.declared.marks.Values.{Values}
+use Rattle.book.proofs.Growth.{parts}
+use Rattle.house.proofs.Looked.{series_parts}
 use Rattle.ladders.specs.Fractions.{inside, floor, ceiling}
 use Rattle.ladders.specs.Prices.{within}
 use Rattle.ladders.specs.Rounding.{Near, Nearest}
@@ -30,7 +32,7 @@ use Rattle.house.specs.declared.series.Series.{Series}
 use Rattle.runs.specs.Raised.{Matched, ValueRaised}
 use Rattle.runs.specs.Stations.{NotLower, RulingRaised, SeriesRaised}
 use Rattle.runs.proofs.Along.{LawfulPair, StationLawful, along, lawful_pairs}
-use Rattle.runs.proofs.Inside.{average_inside, middle_inside, quote_lawful, theory_lawful, whole_inside}
+use Rattle.runs.proofs.Inside.{average_inside, middle_inside, whole_inside}
 use Rattle.runs.proofs.RaisedFigures.{SidesRaised, ValuesRaised}
 
 -- the same number, a raised series, and raised figures in each window
@@ -120,7 +122,7 @@ module _ (P : ℤ → Bool) (near : (z : ℤ) → Near P z) where
   finds_raised : (r q : Option ℤ) (s t : Series) (v w : Values) (k l : ℕ) → side_lawful s.theory ≡ true → side_lawful t.theory ≡ true → bounded k v ≡ true → bounded l w ≡ true → ValueRaised r q → SeriesRaised s t → ValuesRaised v w → (step : Step) → ValueRaised (finds P r s v step) (finds P q t w step)
   finds_raised r q s t v w k l ls lt lv lw reference series values Auction = values.auction
   finds_raised r q s t v w k l ls lt lv lw reference series values Trade = values.trade
-  finds_raised r q s t v w k l ls lt lv lw reference series values Quote = quoted_raised v.quote w.quote (quote_lawful k v lv) (quote_lawful l w lw) values.quote
+  finds_raised r q s t v w k l ls lt lv lw reference series values Quote = quoted_raised v.quote w.quote (parts k v lv).quote (parts l w lw).quote values.quote
   finds_raised r q s t v w k l ls lt lv lw reference series values Average = average_raised k l v w lv lw values
   finds_raised r q s t v w k l ls lt lv lw reference series values Theory = nearest_theory_raised s.theory t.theory ls lt series.theory
   finds_raised r q s t v w k l ls lt lv lw reference series values TheoryUp = above_theory_raised s.theory t.theory ls lt series.theory
@@ -196,7 +198,7 @@ module _ (P : ℕ → ℤ → Bool) (near : (n : ℕ) (z : ℤ) → Near (P n) z
       let w = window_number p.window in
       subst (λ (n : ℕ). ValueRaised (found P r x p) (finds (P n) q y.series (y.figures w) p.step)) rise.series.ladder
       (finds_raised (P x.series.terms.ladder) (near x.series.terms.ladder) r q x.series y.series (x.figures w) (y.figures w) (lx.figures w).0 (ly.figures w).0
-      (theory_lawful x.number x.series lx.series) (theory_lawful y.number y.series ly.series) (lx.figures w).1 (ly.figures w).1
+      (series_parts x.number x.series lx.series).theory (series_parts y.number y.series ly.series).theory (lx.figures w).1 (ly.figures w).1
       reference rise.series (rise.figures w) p.step)
 
   origin_raised : (x y : Station) (u v : Option Answer) → StationRaised x y → Matched NotLower u v → origin ed x u ≡ origin ed y v

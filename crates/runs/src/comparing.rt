@@ -33,7 +33,8 @@ impl<L: LadderSet, B: Book> Run<'_, L, B> {
     }
 }
 
-// Both runs, and the question after each.
+// Both runs, and the question after each. Apart from `compare`, whose laws rest on this, so that a fault in a run is told here.
+// Series and edition stay two parameters, as they are two words of a line.
 fn ask_both<K: LadderSet, J: Book, L: LadderSet, B: Book>(
     first: Run<'_, K, J>,
     second: Run<'_, L, B>,
@@ -72,7 +73,8 @@ pub fn compare<K: LadderSet, J: Book, L: LadderSet, B: Book>(
 }
 
 // The same, of runs that this call begins itself: one on a board of the capacity stated, one on a tape in the places lent.
-// So nothing is asked of the beginning, and only that the ladder sets have one meaning.
+// So nothing is asked of the beginning, and only that the ladder sets have one meaning. What each run is made of stands apart,
+// since the two makes need different things.
 pub fn compare_makes<K: LadderSet + Drop, L: LadderSet + Drop>(
     day: LawfulDay,
     first: K,

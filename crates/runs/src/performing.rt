@@ -1,5 +1,5 @@
 // Calls handed to a house and its book.
-ghost use Rattle.std.specs.Prelude.{◌≡◌, ℕ};
+ghost use Rattle.std.specs.Prelude.{◌≡◌, ℕ, IfErr};
 ghost use Rattle.book.specs.declared.days.Day.{Day};
 ghost use Rattle.runs.specs.Runs.{after_run, new_world, next, reply, taken, world};
 ghost use Rattle.runs.specs.Told.{Told};
@@ -19,6 +19,7 @@ pub fn perform<L: LadderSet, B: Book>(
     ensures answer { result ≡ reply (L.LadderSet.size house.old.set) (L.LadderSet.lawful house.old.set) call.now (world house.old (B.Book.meaning book.old)) }
     ensures after { world house.new (B.Book.meaning book.new) ≡ next (L.LadderSet.size house.old.set) (L.LadderSet.lawful house.old.set) call.now (world house.old (B.Book.meaning book.old)) }
     ensures set { house.new.set ≡ house.old.set }
+    ensures refused { IfErr result (λ _. world house.new (B.Book.meaning book.new) ≡ world house.old (B.Book.meaning book.old)) }
 {
     // A match, and no table of functions: the calls are closed, and have different parts.
     match *call {

@@ -27,4 +27,5 @@ returns c = record {
     ),
   );
   refused = refl;
+  told = (refl, refl);
 }

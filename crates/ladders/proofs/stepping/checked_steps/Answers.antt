@@ -1,6 +1,5 @@
-use Rattle.std.proofs.Common.{◌+◌, ◌<◌, length, drop, Some, sym, ap, ◌∙◌, arith, w64, SFits, rules}
+use Rattle.std.proofs.Common.{◌+◌, ◌<◌, length, drop, sym, ap, ◌∙◌, arith}
 use Rattle.std.proofs.lemmas.List.{length-set}
-use Rattle.std.proofs.lemmas.Int.{to_z-of_z}
 use Rattle.ladders.specs.Bands.{band, later_fault}
 use Rattle.ladders.proofs.Checked.{sound_band, one_more}
 use Rattle.ladders.proofs.stepping.checked_steps.Goals as goal
@@ -11,12 +10,12 @@ loop-i-preserved c =
     let i = c.loop-i.i in
     let rest = c.args.rest.now in
     let sound = c.in_ok-step.ensures in
-    let fits : SFits w64 step.start = search rules in
-    let start = to_z-of_z w64 step.start fits in
+    let before = c.from-before.ensures in
     let within : i < length c.loop-i.later = omega arith in (
       length-set c.loop-i.later i step ∙ c.loop-i.invariant.0,
       one_more c.loop-i.later rest i step _ within c.loop-i-test.true c.loop-i.invariant.1 sound.1,
       sound_band _ _ rest i _ c.loop-i-test.true c.loop-i.invariant.2 sound.0
           ∙ ap (λ b. later_fault b (drop (i + 1) rest)) (sym sound.1)
-          ∙ ap (λ s. later_fault (band (Some s) step.tick) (drop (i + 1) rest)) (sym start),
+          ∙ ap (λ s. later_fault (band s step.tick) (drop (i + 1) rest)) (sym before.0)
+          ∙ ap (λ t. later_fault (band c.from-before.result.start t) (drop (i + 1) rest)) (sym before.1),
     )

@@ -23,3 +23,9 @@ returns-clause-value c k =
 
 pub returns-clause-lawful : goal.returns-clause-lawful
 returns-clause-lawful c = row_lawful c.args.family c.args.choice
+
+-- Nothing follows the first empty place, since nothing does in the row.
+pub returns-clause-gapless : goal.returns-clause-gapless
+returns-clause-gapless c j k h e =
+    let tells = returns-clause-value c in
+    tells k ∙ (row_lawful c.args.family c.args.choice).gapless j k h (sym (tells j) ∙ e)

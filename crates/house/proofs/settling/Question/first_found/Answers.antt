@@ -2,46 +2,32 @@ use Rattle.std.proofs.Common.{◌≡◌, ◌+◌, Some, sym, ap, ◌∙◌, arit
 use Rattle.std.proofs.lemmas.Int.{to_z-of_z}
 use Rattle.rows.proofs.RowTest.{row_lawful}
 use Rattle.rows.specs.Chosen.{chosen}
-use Rattle.house.specs.Answers.{first_found, price_of, row_of, station_of}
-use Rattle.house.specs.Found.{found}
 use Rattle.house.proofs.RowWalk.{found_here, found_later, found_not, found_nowhere}
 use Rattle.house.proofs.settling.Question.first_found.Goals as goal
 
 pub returns-in_err-place-clause-value : goal.returns-in_err-place-clause-value
 returns-in_err-place-clause-value g c =
-    let a = c.args.self.now in
-    let find = found (g.L.LadderSet.lawful a.set.now) (price_of a.reference) (station_of a.number a.series (g.B.Book.meaning a.book.now)) in
-    let row = row_of a.series a.edition in
     let j = c.loop-position.position in
-    c.from_residual.ensures ∙ sym (found_nowhere find row j (first_found find 1 row) c.loop-position.invariant (sym (c.places-places.ensures j) ∙ c.in_err-place.was))
+    c.from_residual.ensures ∙ sym (found_nowhere _ _ j _ c.loop-position.invariant (sym (c.places-places.ensures j) ∙ c.in_err-place.was))
 
 pub returns-in-Some-clause-value : goal.returns-in-Some-clause-value
 returns-in-Some-clause-value g c =
-    let a = c.args.self.now in
-    let find = found (g.L.LadderSet.lawful a.set.now) (price_of a.reference) (station_of a.number a.series (g.B.Book.meaning a.book.now)) in
-    let row = row_of a.series a.edition in
     let j = c.loop-position.position in
     let p = c.in_ok-place.place in
     let v = c.in-Some.price in
     let fits : SFits w64 v = search rules in
     let same : c.settlement_at.result ≡ record { price = v; step = p.step; place = j + 1 } = c.settlement_at.ensures ∙ ap (λ z. record { price = z; step = p.step; place = j + 1 }) (to_z-of_z w64 v fits) in
-    ap Some same ∙ sym (found_here find row j (first_found find 1 row) c.loop-position.invariant p v (sym (c.places-places.ensures j) ∙ c.in_ok-place.was) (sym c.look.ensures.value ∙ c.in-Some.is))
+    ap Some same ∙ sym (found_here _ _ j _ c.loop-position.invariant p v (sym (c.places-places.ensures j) ∙ c.in_ok-place.was) (sym c.look.ensures.value ∙ c.in-Some.is))
 
 pub loop-position-preserved : goal.loop-position-preserved
 loop-position-preserved g c =
-    let a = c.args.self.now in
-    let find = found (g.L.LadderSet.lawful a.set.now) (price_of a.reference) (station_of a.number a.series (g.B.Book.meaning a.book.now)) in
-    let row = row_of a.series a.edition in
-    found_later find row c.loop-position.position (first_found find 1 row) c.loop-position.invariant c.in_ok-place.place (sym (c.places-places.ensures c.loop-position.position) ∙ c.in_ok-place.was) (sym c.look.ensures.value ∙ c.in_default.is)
+    found_later _ _ c.loop-position.position _ c.loop-position.invariant c.in_ok-place.place (sym (c.places-places.ensures c.loop-position.position) ∙ c.in_ok-place.was) (sym c.look.ensures.value ∙ c.in_default.is)
 
 pub returns-clause-value : goal.returns-clause-value
 returns-clause-value g c =
-    let a = c.args.self.now in
-    let s = a.series in
-    let find = found (g.L.LadderSet.lawful a.set.now) (price_of a.reference) (station_of a.number a.series (g.B.Book.meaning a.book.now)) in
-    let row = row_of s a.edition in
-    let lawful = row_lawful s.terms.family (chosen s.terms.family s.terms.marks a.edition) in
+    let s = c.args.self.now.series in
+    let lawful = row_lawful s.terms.family (chosen s.terms.family s.terms.marks c.args.self.now.edition) in
     let short = lawful.short in
     let end = c.loop-position-test.false in
     let long : length c.places-places.result ≡ 6 = search rules in
-    sym (found_not find row c.loop-position.position (first_found find 1 row) c.loop-position.invariant (omega arith))
+    sym (found_not _ _ c.loop-position.position _ c.loop-position.invariant (omega arith))

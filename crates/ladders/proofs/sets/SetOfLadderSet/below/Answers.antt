@@ -1,21 +1,14 @@
-use Rattle.std.proofs.Common.{◌≡◌, ◌≤◌, Bool, length, ℤ, subst, arith, w64, rules}
+use Rattle.std.proofs.Common.{take, w64, refl, rules}
 use Rattle.std.proofs.lemmas.Int.{to_z-of_z}
 use Rattle.ladders.specs.Prices.{within}
 use Rattle.ladders.specs.Rounding.{AnswersWhere, Below}
-use Rattle.ladders.specs.InSet.{in_set, lacks, below_itself}
+use Rattle.ladders.specs.InSet.{by_ladder, below_itself}
 use Rattle.ladders.proofs.sets.SetOfLadderSet.below.Goals as goal
-
-pub returns-then-ladder-self : goal.returns-then-ladder-self
-returns-then-ladder-self g c =
-    let s = c.args.self.now in
-    let long : length s.ladders ≡ 16 = search rules in
-    let few : s.count ≤ length s.ladders = omega arith in
-    subst (λ (P : ℤ → Bool). AnswersWhere (within c.args.v) (Below P c.args.v) c.below.result)
-    (in_set g.L.Ladder.holds s.ladders s.count c.args.ladder c.index-self-ladder.result c.if-ladder-self.true few)
-    (simp (to_z-of_z w64 c.args.v c.ranges.v) at c.below.ensures)
 
 pub returns : goal.returns
 returns g c =
     let s = c.args.self.now in
     let v = to_z-of_z w64 c.args.v c.ranges.v in
-    below_itself _ (lacks g.L.Ladder.holds s.ladders s.count c.args.ladder c.if-ladder-self.false) c.args.v c.whole.result (simp v at c.whole.ensures)
+    by_ladder g.L.Ladder.holds (λ P. AnswersWhere (within c.args.v) (Below P c.args.v) c.map_or_else.result) (take s.count s.ladders) c.args.ladder c.ladder.result _ _ c.ladder.ensures c.map_or_else.ensures
+    (λ none. below_itself _ (λ _. refl) c.args.v c.map_or_else.result (search rules))
+    (λ l some. search rules)

@@ -1,22 +1,14 @@
-use Rattle.std.proofs.Common.{◌≡◌, ◌+◌, ◌-◌, ◌<◌, ◌≤◌, length, drop, refl, ap, ◌∙◌, arith}
-use Rattle.std.proofs.lemmas.List.{drop_all, length-drop, length-take-le}
-use Rattle.lines.specs.Fields.{behind}
+use Rattle.std.proofs.Common.{◌≡◌, ◌+◌, ◌-◌, ◌<◌, ◌≤◌, length, drop, ◌∙◌, arith}
+use Rattle.std.proofs.lemmas.List.{length-drop, length-take-le}
 use Rattle.lines.proofs.Cuts.{left_cut}
 use Rattle.lines.proofs.readers.Reader.next_field.Goals as goal
 
-pub returns-then-self : goal.returns-then-self
-returns-then-self c =
-    record { line = refl; cut = (ap behind (drop_all c.args.self.now.at c.args.self.now.line.now (omega arith)), refl) }
-
-pub returns : goal.returns
-returns c =
+pub returns-clause-cut : goal.returns-clause-cut
+returns-clause-cut c =
     let at = c.args.self.now.at in
     let line = c.args.self.now.line.now in
     let end = c.field_end-end.result in
     let w : at ≤ length line = c.args.self.now.within in
     let l : at < length line = omega arith in
     let d : length (drop (at + 1) line) ≡ length line - (at + 1) = length-drop (at + 1) line in
-    record {
-      line = refl;
-      cut = (left_cut line at l ∙ c.field_end-end.ensures.cut, omega (arith, length-take-le (end - (at + 1)) (drop (at + 1) line) (omega arith)));
-    }
+    (left_cut line at l ∙ c.field_end-end.ensures.cut, omega (arith, length-take-le (end - (at + 1)) (drop (at + 1) line) (omega arith)))

@@ -1,4 +1,4 @@
-use Rattle.std.proofs.Common.{◌+◌, ap, arith}
+use Rattle.std.proofs.Common.{ap, arith}
 use Rattle.std.proofs.lemmas.Result.{err_from_is_err_and}
 use Rattle.lines.specs.Fields.{left_at}
 use Rattle.lines.proofs.Missing.{missed_first, missed_more, missed_none}
@@ -7,27 +7,19 @@ use Rattle.lines.proofs.tuples.Tuple2FromFields.from_fields.Goals as goal
 pub returns-in_default : goal.returns-in_default
 returns-in_default g c =
     missed_none g.T.FromField.spelt g.T.FromField.lawful g.R.FromFields.spelt g.R.FromFields.lawful
-    g.T.FromField.sample g.met.T.FromField.sampled g.R.FromFields.sample g.met.R.FromFields.sampled
-    (left_at c.args.reader.now.line.now c.args.reader.now.at) c.in_default.ensures.cut.0
-    c.args.reader.now.at
+    _ g.met.T.FromField.sampled _ g.met.R.FromFields.sampled _ c.in_default.ensures.cut.0 _
 
 pub returns-in_default-from_field : goal.returns-in_default-from_field
 returns-in_default-from_field g c =
     missed_first g.T.FromField.spelt g.T.FromField.lawful g.R.FromFields.spelt g.R.FromFields.lawful
-    g.T.FromField.sample g.met.T.FromField.sampled g.R.FromFields.sample g.met.R.FromFields.sampled
-    c.in-Some.field.now (left_at c.args.reader.now.line.now c.args.reader.now.at)
-    (left_at c.args.reader.now.line.now c.next_field.new.self.at) c.in-Some.ensures.cut.0
-    (c.args.reader.now.at + 1) c.in_default-from_field.ensures
+    _ g.met.T.FromField.sampled _ g.met.R.FromFields.sampled _ _ _ c.in-Some.ensures.cut.0 _ c.in_default-from_field.ensures
 
 pub returns-in_err-rest : goal.returns-in_err-rest
 returns-in_err-rest g c =
     let p = err_from_is_err_and c.from_residual.result c.from_residual.ensures.1 in
+    let first = c.in-Some-from_field.ensures in
     rw (p.1, p.2)
     (missed_more g.T.FromField.spelt g.T.FromField.lawful g.R.FromFields.spelt g.R.FromFields.lawful
-    c.in-Some-from_field.first c.in-Some-from_field.ensures.0 c.in-Some.field.now
-    c.in-Some-from_field.ensures.1
-    (left_at c.args.reader.now.line.now c.args.reader.now.at)
-    (left_at c.args.reader.now.line.now c.next_field.new.self.at)
-    (left_at c.next_field.new.self.line.now c.next_field.new.self.at) c.in-Some.ensures.cut.0
-    (ap (λ line. left_at line c.next_field.new.self.at) c.in-Some.ensures.line) (c.args.reader.now.at + 1)
-    (c.next_field.new.self.at + 1) _ (omega (arith, c.in-Some.ensures.cut.1)) c.in_err-rest.ensures)
+    _ first.0 _ first.1 _ _ _ c.in-Some.ensures.cut.0
+    (ap (λ line. left_at line c.next_field.new.self.at) c.in-Some.ensures.line) _ _ _
+    (omega (arith, c.in-Some.ensures.cut.1)) c.in_err-rest.ensures)

@@ -1,10 +1,6 @@
 use Rattle.std.proofs.Common.{rules}
-use Rattle.lines.proofs.Numbers.{minus_front, minus_none, minus_zero}
+use Rattle.lines.proofs.Numbers.{minus_front, minus_zero}
 use Rattle.lines.proofs.values.I64FromField.from_field.Goals as goal
-
-pub returns-in_err-n-in-45 : goal.returns-in_err-n-in-45
-returns-in_err-n-in-45 c =
-    rw c.from_residual.ensures (minus_none c.args.field.now _ (minus_front c.args.field.now (search rules) (search rules)) (λ n _. c.in_err-n-in-45.ensures n))
 
 pub returns-in-0 : goal.returns-in-0
 returns-in-0 c =
