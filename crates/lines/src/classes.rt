@@ -1,7 +1,7 @@
 // Bytes by what they are to a line.
 ghost use Rattle.lines.specs.Values.{Classed};
 
-#[derive(Clone, Copy)]
+#[derive(Clone, Copy, PartialEq, Eq)]
 pub enum ByteClass {
     Digit(u8),
     Minus,

@@ -14,7 +14,7 @@ fn field_end(line: &[u8], start: usize) -> usize
     let rest = &line[start..];
     let spaces = rest
         .iter()
-        .position(|byte| matches!(class_of(*byte), ByteClass::Space));
+        .position(|byte| class_of(*byte) == ByteClass::Space);
     start + spaces.unwrap_or(rest.len())
 }
 
