@@ -6,7 +6,7 @@ ghost use Rattle.book.specs.Ledgers.{fresh};
 ghost use Rattle.board.specs.Cells.{cell, tabled};
 
 use crate::tables::Table;
-use book::books::{Book, MOST, admit};
+use book::books::{Book, MOST, Reusable, admit};
 use book::days::Day;
 use book::entries::Entry;
 use book::faults::BookFault;
@@ -75,5 +75,13 @@ impl Book for Board {
 
     fn count(&self) -> u16 {
         self.count
+    }
+}
+
+impl Reusable for Board {
+    fn begin(&mut self, day: LawfulDay) {
+        self.table = Table::empty();
+        self.day = day;
+        self.count = 0;
     }
 }

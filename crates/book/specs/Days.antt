@@ -9,3 +9,7 @@ abbrev pub is_lawful : Day → Bool
 is_lawful d =
     ((int_le (pos 0) d.night && int_le d.night (pos 86399)) && (int_le (pos 86400) d.opening && int_le d.opening d.afternoon))
     && ((int_lt d.afternoon d.close && int_le d.close (pos 172799)) && (int_lt d.opening d.cut && int_lt d.cut d.close))
+
+-- every number as small as a lawful day may have it
+abbrev pub least_day : Day
+least_day = record { night = pos 0; opening = pos 86400; afternoon = pos 86400; close = pos 86402; cut = pos 86401 }

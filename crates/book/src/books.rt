@@ -2,11 +2,12 @@
 ghost use Rattle.std.specs.Prelude.{◌≡◌, ◌≤◌, true};
 ghost use Rattle.book.specs.Bounds.{bounded};
 ghost use Rattle.book.specs.Figures.{values};
-ghost use Rattle.book.specs.Ledgers.{Ledger, Lawful, after, answer, reply};
+ghost use Rattle.book.specs.Ledgers.{Ledger, Lawful, after, answer, fresh, reply};
 
 use crate::days::Day;
 use crate::entries::{Entry, is_allowed};
 use crate::faults::BookFault;
+use crate::lawful::LawfulDay;
 use crate::marks::Values;
 
 // No book holds more entries.
@@ -52,4 +53,11 @@ pub trait Book {
 
     fn count(&self) -> u16
         ensures { result ≡ (meaning self.now).count };
+}
+
+// A book that can be begun anew: whoever lends it need not know the day before it is told.
+pub trait Reusable: Book {
+    // Begins the day with an empty book, of as many places as before.
+    fn begin(&mut self, day: LawfulDay)
+        ensures { Self.meaning self.new ≡ fresh day.day (Self.meaning self.old).capacity };
 }

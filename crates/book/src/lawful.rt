@@ -1,6 +1,6 @@
 // A day record that was found lawful.
 ghost use Rattle.std.specs.Prelude.{◌≡◌, true, false, MatchResult};
-ghost use Rattle.book.specs.Days.{is_lawful};
+ghost use Rattle.book.specs.Days.{is_lawful, least_day};
 ghost use Rattle.book.specs.declared.faults.DayFault.TheVariants.{NotLawful};
 
 use crate::days::Day;
@@ -39,6 +39,21 @@ impl LawfulDay {
             return Err(DayFault::NotLawful);
         }
         Ok(LawfulDay { day })
+    }
+
+    // The least lawful day, for a book that waits for a day to begin.
+    pub fn least() -> LawfulDay
+        ensures { result.day ≡ least_day }
+    {
+        LawfulDay {
+            day: Day {
+                night: 0,
+                opening: MIDNIGHT,
+                afternoon: MIDNIGHT,
+                close: MIDNIGHT + 2,
+                cut: MIDNIGHT + 1,
+            },
+        }
     }
 
     // The five numbers.

@@ -6,7 +6,7 @@ ghost use Rattle.book.specs.Ledgers.{fresh};
 ghost use Rattle.book.specs.Records.{every, recorded};
 
 use crate::scans::scan;
-use book::books::{Book, MOST, admit};
+use book::books::{Book, MOST, Reusable, admit};
 use book::days::Day;
 use book::entries::Entry;
 use book::faults::BookFault;
@@ -74,5 +74,12 @@ impl Book for Tape<'_> {
 
     fn count(&self) -> u16 {
         self.count as u16
+    }
+}
+
+impl Reusable for Tape<'_> {
+    fn begin(&mut self, day: LawfulDay) {
+        self.day = day.day();
+        self.count = 0;
     }
 }
