@@ -1,0 +1,83 @@
+// Why a line is refused, the number that each refusal is known by, and what is told beside the number.
+ghost use Rattle.std.specs.Prelude.{◌≡◌, ◌⊎◌, ◌↔◌, IsSome};
+ghost use Rattle.answers.specs.Faults.{line_detail, line_number};
+ghost use Rattle.answers.specs.declared.faults.LineFault.TheVariants as refused;
+
+use book::faults::DayFault;
+use house::faults::HouseFault;
+use ladders::faults::LadderFault;
+use lines::faults::NotRead;
+
+#[derive(Clone, Copy, PartialEq, Eq, Debug)]
+pub enum LineFault {
+    // A call before the day line.
+    NoDay,
+    // A further day line.
+    SecondDay,
+    Day(DayFault),
+    Ladders(LadderFault),
+    House(HouseFault),
+    NotRead(NotRead),
+    // The buffer for the answer is shorter than every answer may need.
+    ShortBuffer,
+}
+
+impl LineFault {
+    // A method, since a From to u8 would not say what the number is.
+    pub fn number(self) -> u8
+        ensures { result ≡ line_number self }
+    {
+        match self {
+            LineFault::NoDay | LineFault::SecondDay => 2,
+            LineFault::Day(fault) => fault.number(),
+            LineFault::Ladders(fault) => fault.number(),
+            LineFault::House(fault) => fault.number(),
+            LineFault::NotRead(_) => 11,
+            LineFault::ShortBuffer => 12,
+        }
+    }
+
+    // The origin of a refused price, or the place at which the line departs from the grammar.
+    pub fn detail(self) -> Option<u8>
+        ensures detail { result ≡ line_detail self }
+        ensures numbers { IsSome result ↔ ((line_number self ≡ 10) ⊎ (line_number self ≡ 11)) }
+    {
+        match self {
+            LineFault::House(HouseFault::NoPrice(origin)) => Some(origin),
+            LineFault::NotRead(refusal) => Some(refusal.place),
+            _ => None,
+        }
+    }
+}
+
+impl From<DayFault> for LineFault {
+    ghost from_gives = { λ f r. r ≡ refused.Day f };
+
+    fn from(refusal: DayFault) -> LineFault {
+        LineFault::Day(refusal)
+    }
+}
+
+impl From<LadderFault> for LineFault {
+    ghost from_gives = { λ f r. r ≡ refused.Ladders f };
+
+    fn from(refusal: LadderFault) -> LineFault {
+        LineFault::Ladders(refusal)
+    }
+}
+
+impl From<HouseFault> for LineFault {
+    ghost from_gives = { λ f r. r ≡ refused.House f };
+
+    fn from(refusal: HouseFault) -> LineFault {
+        LineFault::House(refusal)
+    }
+}
+
+impl From<NotRead> for LineFault {
+    ghost from_gives = { λ f r. r ≡ refused.NotRead f };
+
+    fn from(refusal: NotRead) -> LineFault {
+        LineFault::NotRead(refusal)
+    }
+}

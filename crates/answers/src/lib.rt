@@ -1,0 +1,5 @@
+// What a line of input is answered, in bytes.
+#![tactic(auto)]
+
+pub mod answers;
+pub mod faults;
