@@ -30,7 +30,7 @@ impl fmt::Display for Replied {
         match self.0 {
             Ok(Reply::Done) => write!(f, "done"),
             Ok(Reply::Listed(number)) => write!(f, "listed {number}"),
-            Ok(Reply::Settled(found)) => write!(f, "{}", Told(Ok(found))),
+            Ok(Reply::Settled { settlement, .. }) => write!(f, "{}", Told(Ok(settlement))),
             Err(fault) => write!(f, "{}", Refusal(fault)),
         }
     }

@@ -33,9 +33,9 @@ as_listed (Ok n) = Ok (Listed n)
 as_listed (Err fault) = Err fault
 
 -- the settlement of the series asked for, as a reply
-abbrev pub as_settled : Result Settlement HouseFault → Result Reply HouseFault
-as_settled (Ok s) = Ok (Settled s)
-as_settled (Err fault) = Err fault
+abbrev pub as_settled : ℤ → Result Settlement HouseFault → Result Reply HouseFault
+as_settled n (Ok s) = Ok (Settled n s)
+as_settled n (Err fault) = Err fault
 
 abbrev pub reply : ℕ → (ℕ → ℤ → Bool) → Call → World → Result Reply HouseFault
 reply ladders lawful (ListCall t) w = as_listed (list_answer ladders t w.state)
@@ -43,7 +43,7 @@ reply ladders lawful (Ring b) w = told Done (bell_answer b w.state)
 reply ladders lawful (Enter e) w = told Done (entry_answer lawful w.book e w.state)
 reply ladders lawful (SetTheory n value) w = told Done (theory_answer n value w.state)
 reply ladders lawful (SetRuling n value first) w = told Done (ruling_answer n value first w.state)
-reply ladders lawful (Settle n edition) w = as_settled (settle_answer lawful edition n w.state w.book)
+reply ladders lawful (Settle n edition) w = as_settled n (settle_answer lawful edition n w.state w.book)
 
 -- an entry is for the book, a question changes nothing, and all else is for the house
 abbrev pub next : ℕ → (ℕ → ℤ → Bool) → Call → World → World

@@ -31,5 +31,9 @@ pub enum Reply {
     Done,
     // The number of the series.
     Listed(u8),
-    Settled(Settlement),
+    // The series as the question named it, and its settlement.
+    Settled {
+        series: i64,
+        settlement: Settlement,
+    },
 }

@@ -35,7 +35,8 @@ pub fn perform<L: LadderSet, B: Book>(
             first,
         } => house.set_ruling(series, value, first).map(|()| Reply::Done),
         Call::Settle { series, edition } => {
-            house.settle(book, series, edition).map(Reply::Settled)
+            let settlement = house.settle(book, series, edition)?;
+            Ok(Reply::Settled { series, settlement })
         }
     }
 }
