@@ -1,8 +1,10 @@
 pub mod Slots
 pub mod Admitted
+pub mod Laddered
 mod Demands
 pub mod Looked
 mod RowWalk
 pub mod Paths
 pub mod Explained
+pub mod OnPath
 mod OnTick

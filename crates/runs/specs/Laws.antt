@@ -1,5 +1,5 @@
 -- Two runs, and what must be equal, raised or added in the evidence on the path of a series.
-use Rattle.std.specs.Prelude.{◌≡◌, ℕ, Bool, true, List, ℤ, Result, unsigned_abs}
+use Rattle.std.specs.Prelude.{◌≡◌, ℕ, Bool, true, List, length, ℤ, Result, unsigned_abs}
 use Rattle.std.specs.List.{AllZip, AllByRecursion}
 use Rattle.book.specs.Ledgers.{Ledger}
 use Rattle.book.specs.declared.days.Day.{Day}
@@ -13,7 +13,7 @@ use Rattle.house.specs.declared.houses.House.{House}
 use Rattle.runs.specs.Added.{Among}
 use Rattle.runs.specs.Kept.{kept}
 use Rattle.runs.specs.Raised.{EntryRaised}
-use Rattle.runs.specs.Readings.{entries, stands}
+use Rattle.runs.specs.Readings.{entries, listed, phase_after, stands}
 use Rattle.runs.specs.Runs.{World, after_run, new_world, taken, world}
 use Rattle.runs.specs.Stations.{NoLater, NotLower, SeriesRaised}
 use Rattle.runs.specs.declared.calls.Call.{Call}
@@ -27,11 +27,11 @@ pub record Run : Type 0 where
   pub calls : List Call
 
 -- on a house over a ladder set with this count and these lawful prices, and a book of this meaning
-abbrev pub run_of : {L : Type 0} → (L → ℕ) → (L → ℕ → ℤ → Bool) → House L → Ledger → List Call → Run
+abbrev pub run_of : {L : Type 0} {bound : _} → (L → ℕ) → (L → ℕ → ℤ → Bool) → House L bound → Ledger → List Call → Run
 run_of size lawful h m calls = record { ladders = size h.set; lawful = lawful h.set; start = world h m; calls = calls }
 
 -- as it is handed to a call
-abbrev pub run_in : {L B : Type 0} → (L → ℕ) → (L → ℕ → ℤ → Bool) → (B → Ledger) → runs.Run L B → Run
+abbrev pub run_in : {L B : Type 0} {bound : _} → (L → ℕ) → (L → ℕ → ℤ → Bool) → (B → Ledger) → runs.Run L B bound → Run
 run_in size lawful meaning r = run_of size lawful r.house.now (meaning r.book.now) r.calls.now
 
 -- what stands in the end, and the calls that were not refused
@@ -51,10 +51,10 @@ new_run size lawful set d k calls = record { ladders = size set; lawful = lawful
 
 -- ---- which runs can be compared
 
--- in the end the series is listed and the edition open
+-- by the calls taken the series is listed and the edition open
 pub record Asked (r : Run) (n : ℤ) (ed : Edition) : Type 0 where
-  pub listed : is_listed (end r).state.roll.count n ≡ true
-  pub opened : is_open (end r).state.phase ed ≡ true
+  pub listed : is_listed (length (listed (taken_in r))) n ≡ true
+  pub opened : is_open (phase_after (taken_in r)) ed ≡ true
 
 -- one ladder set, by its meaning, and a question that may be asked in both
 pub record Alike (a b : Run) (n : ℤ) (ed : Edition) : Type 0 where
