@@ -1,0 +1,2 @@
+mod Adding
+mod Lines

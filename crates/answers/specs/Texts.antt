@@ -1,5 +1,5 @@
 -- The answers as they are printed.
-use Rattle.std.specs.Prelude.{ℕ, List, [], ◌∷◌, Ok, Err, Some, None, codes, decimal, Option, Result}
+use Rattle.std.specs.Prelude.{ℕ, ◌≢◌, List, [], ◌∷◌, Ok, Err, Some, None, codes, decimal, Option, Result, All}
 use Rattle.std.specs.Fmt.{signed_decimal}
 use Rattle.rows.specs.Steps.{letter}
 use Rattle.lines.specs.Fields.{spaced}
@@ -23,3 +23,7 @@ answer_fields (Err f) = codes "refused" ∷ decimal (line_number f) ∷ detail_f
 -- with one space between two fields
 abbrev pub answer_text : Result Answer LineFault → List ℕ
 answer_text r = spaced (answer_fields r)
+
+-- a text with no newline byte in it
+abbrev pub OneLine : List ℕ → Type 0
+OneLine text = All (λ b. b ≢ 10) text

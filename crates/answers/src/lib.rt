@@ -3,3 +3,6 @@
 
 pub mod answers;
 pub mod faults;
+#[cfg(test)]
+mod tests;
+pub mod writing;

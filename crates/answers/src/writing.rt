@@ -1,0 +1,97 @@
+// Answers as bytes, written into a buffer that the caller lends.
+#![tactic(auto, using(crate::proofs::Adding::replied))]
+
+ghost use Rattle.std.specs.Prelude.{◌≡◌, ◌+◌, ◌≤◌, [], ◌∷◌, length, IfOk, OnOk};
+ghost use Rattle.answers.specs.Texts.{answer_text, OneLine};
+ghost use Rattle.answers.specs.Written.{Added, Begins, Replied};
+
+use crate::answers::Answer;
+use crate::faults::LineFault;
+use house::answers::Settlement;
+use itoa::{Buffer, Integer};
+
+// Every answer has room in so many bytes.
+const LONGEST: usize = 96;
+
+// Copies the bytes to a place of the buffer, and tells where they end.
+fn put(out: &mut [u8], at: usize, bytes: &[u8]) -> usize
+    requires { at + length bytes.now ≤ length out.old }
+    ensures { Added out.old at bytes.now out.new result }
+{
+    let end = at + bytes.len();
+    out[at..end].copy_from_slice(bytes);
+    end
+}
+
+// The same of a field that is not the first: a space goes before it.
+fn put_field(out: &mut [u8], at: usize, field: &[u8]) -> usize
+    requires { at + 1 + length field.now ≤ length out.old }
+    ensures { Added out.old at (32 ∷ field.now) out.new result }
+{
+    let start = put(out, at, b" ");
+    put(out, start, field)
+}
+
+fn put_number<I: Integer>(out: &mut [u8], at: usize, number: I) -> usize
+    requires { at + 1 + I.MAX_STR_LEN ≤ length out.old }
+    ensures added { Added out.old at (32 ∷ I.text number) out.new result }
+    ensures short { result ≤ at + 1 + I.MAX_STR_LEN }
+{
+    let mut buffer = Buffer::new();
+    put_field(out, at, buffer.format(number).as_bytes())
+}
+
+fn put_done(out: &mut [u8]) -> usize
+    requires { 96 ≤ length out.old }
+    ensures { Begins out.old (answer_text (Ok Answer.Done)) out.new result }
+{
+    put(out, 0, b"done")
+}
+
+fn put_listed(out: &mut [u8], series: u8) -> usize
+    requires { 96 ≤ length out.old }
+    ensures { Begins out.old (answer_text (Ok (Answer.Listed series))) out.new result }
+{
+    let at = put(out, 0, b"listed");
+    put_number(out, at, series)
+}
+
+fn put_price(out: &mut [u8], series: i64, settlement: Settlement) -> usize
+    requires { 96 ≤ length out.old }
+    ensures { Begins out.old (answer_text (Ok (Answer.Price series settlement))) out.new result }
+{
+    let at = put(out, 0, b"price");
+    let at = put_number(out, at, series);
+    let at = put_number(out, at, settlement.price);
+    let at = put_field(out, at, &[settlement.step.letter()]);
+    put_number(out, at, settlement.place)
+}
+
+fn put_refused(out: &mut [u8], fault: LineFault) -> usize
+    requires { 96 ≤ length out.old }
+    ensures { Begins out.old (answer_text (Err fault)) out.new result }
+{
+    let at = put(out, 0, b"refused");
+    let at = put_number(out, at, fault.number());
+    match fault.detail() {
+        Some(detail) => put_number(out, at, detail),
+        None => at,
+    }
+}
+
+// Writes the answer to a line at the front of the buffer, and tells how many bytes it has.
+pub fn write_answer(answer: &Result<Answer, LineFault>, out: &mut [u8]) -> Result<usize, LineFault>
+    ensures replied { Replied (answer_text answer.now) out.old result out.new }
+    ensures short { IfOk result (λ n. n ≤ 96) }
+    ensures one_line { OnOk result (OneLine (answer_text answer.now)) }
+{
+    if out.len() < LONGEST {
+        return Err(LineFault::ShortBuffer);
+    }
+    Ok(match *answer {
+        Ok(Answer::Done) => put_done(out),
+        Ok(Answer::Listed(series)) => put_listed(out, series),
+        Ok(Answer::Price { series, settlement }) => put_price(out, series, settlement),
+        Err(fault) => put_refused(out, fault),
+    })
+}
