@@ -1,2 +1,3 @@
 mod Adding
-mod Lines
+mod Neat
+mod Apart

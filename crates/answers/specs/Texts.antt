@@ -1,5 +1,6 @@
 -- The answers as they are printed.
-use Rattle.std.specs.Prelude.{ℕ, ◌≢◌, List, [], ◌∷◌, Ok, Err, Some, None, codes, decimal, Option, Result, All}
+use Rattle.std.specs.Prelude.{◌≡◌, ℕ, ◌^◌, ◌<◌, ◌≤◌, ◌≢◌, List, [], ◌∷◌, length, Ok, Err, Some, None, codes, decimal, Option, Result, All, IfSome, FitsSigned}
+use Rattle.std.specs.Int.{w64}
 use Rattle.std.specs.Fmt.{signed_decimal}
 use Rattle.rows.specs.Steps.{letter}
 use Rattle.lines.specs.Fields.{spaced}
@@ -24,6 +25,34 @@ answer_fields (Err f) = codes "refused" ∷ decimal (line_number f) ∷ detail_f
 abbrev pub answer_text : Result Answer LineFault → List ℕ
 answer_text r = spaced (answer_fields r)
 
+-- ---- laws of the texts
+
+-- the numbers fit their Rust types
+abbrev pub Typed : Result Answer LineFault → Type 0
+Typed (Ok Done) = Unit {0}
+Typed (Ok (Listed n)) = n < 2 ^ 8
+Typed (Ok (Price series s)) = FitsSigned w64 series × FitsSigned w64 s.price × (s.place < 2 ^ 8)
+Typed (Err f) = IfSome (line_detail f) (λ n. n < 2 ^ 8)
+
+-- no answer is longer than n bytes
+abbrev pub Longest : ℕ → Type 0
+Longest n = (r : Result Answer LineFault) → Typed r → length (answer_text r) ≤ n
+
 -- a text with no newline byte in it
 abbrev pub OneLine : List ℕ → Type 0
 OneLine text = All (λ b. b ≢ 10) text
+
+abbrev pub AllOneLine : Type 0
+AllOneLine = (r : Result Answer LineFault) → Typed r → OneLine (answer_text r)
+
+-- equal answers, or refusals with the same number and the same origin or place
+abbrev pub Alike : Result Answer LineFault → Result Answer LineFault → Type 0
+Alike (Ok a) (Ok b) = a ≡ b
+Alike (Ok a) (Err g) = ⊥
+Alike (Err f) (Ok b) = ⊥
+Alike (Err f) (Err g) = (line_number f ≡ line_number g) × (line_detail f ≡ line_detail g)
+
+-- a text tells its answer: no two share one
+abbrev pub TextsApart : Type 0
+TextsApart =
+    (r s : Result Answer LineFault) → Typed r → Typed s → answer_text r ≡ answer_text s → Alike r s

@@ -2,7 +2,7 @@
 #![tactic(auto, using(crate::proofs::Adding::replied))]
 
 ghost use Rattle.std.specs.Prelude.{◌≡◌, ◌+◌, ◌≤◌, [], ◌∷◌, length, IfOk, OnOk};
-ghost use Rattle.answers.specs.Texts.{answer_text, OneLine};
+ghost use Rattle.answers.specs.Texts.{answer_text, AllOneLine, Longest, OneLine, TextsApart};
 ghost use Rattle.answers.specs.Written.{Added, Begins, Replied};
 
 use crate::answers::Answer;
@@ -10,8 +10,20 @@ use crate::faults::LineFault;
 use house::answers::Settlement;
 use itoa::{Buffer, Integer};
 
-// Every answer has room in so many bytes.
-const LONGEST: usize = 96;
+// A buffer of so many bytes has room for every answer.
+pub const ROOM: usize = 96;
+
+// How many bytes an answer may need. Its clauses are the laws of the answers' texts: none is longer, none has a newline, and
+// no two answers share one.
+#[tactic(auto, using(crate::proofs::Apart::laws))]
+pub fn room() -> usize
+    ensures value { result ≡ 96 }
+    ensures longest { Longest result }
+    ensures one_line { AllOneLine }
+    ensures apart { TextsApart }
+{
+    ROOM
+}
 
 // Copies the bytes to a place of the buffer, and tells where they end.
 fn put(out: &mut [u8], at: usize, bytes: &[u8]) -> usize
@@ -85,7 +97,7 @@ pub fn write_answer(answer: &Result<Answer, LineFault>, out: &mut [u8]) -> Resul
     ensures short { IfOk result (λ n. n ≤ 96) }
     ensures one_line { OnOk result (OneLine (answer_text answer.now)) }
 {
-    if out.len() < LONGEST {
+    if out.len() < ROOM {
         return Err(LineFault::ShortBuffer);
     }
     Ok(match *answer {

@@ -1,5 +1,6 @@
-use Rattle.std.proofs.Common.{arith}
-use Rattle.answers.proofs.Lines.{done_line}
+use Rattle.std.proofs.Common.{Ok, arith}
+use Rattle.answers.specs.declared.answers.Answer.TheVariants.{Done}
+use Rattle.answers.proofs.Neat.{one_line}
 use Rattle.answers.proofs.writing.put_done.Goals as goal
 
 pub returns : goal.returns
@@ -7,5 +8,5 @@ returns c =
     record {
       added = c.put.ensures;
       short = omega (arith, c.put.ensures.told);
-      one_line = done_line;
+      one_line = one_line (Ok Done) tt;
     }

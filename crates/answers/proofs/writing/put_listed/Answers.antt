@@ -1,6 +1,7 @@
-use Rattle.std.proofs.Common.{arith}
+use Rattle.std.proofs.Common.{Ok, arith}
+use Rattle.answers.specs.declared.answers.Answer.TheVariants.{Listed}
 use Rattle.answers.proofs.Adding.{added_both, added_end}
-use Rattle.answers.proofs.Lines.{listed_line}
+use Rattle.answers.proofs.Neat.{one_line}
 use Rattle.answers.proofs.writing.put_listed.Goals as goal
 
 pub returns : goal.returns
@@ -8,5 +9,5 @@ returns c =
     record {
       added = added_both _ _ _ _ _ _ _ _ c.put-at.ensures (added_end _ _ _ _ _ c.put_number.ensures.added);
       short = omega (arith, c.put-at.ensures.told, c.put_number.ensures.short);
-      one_line = listed_line c.args.series c.ranges.series.fits;
+      one_line = one_line (Ok (Listed c.args.series)) c.ranges.series.fits;
     }

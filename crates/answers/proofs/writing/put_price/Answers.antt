@@ -1,7 +1,8 @@
-use Rattle.std.proofs.Common.{sym, rules, arith, w64, SFits}
+use Rattle.std.proofs.Common.{Ok, sym, rules, arith, w64, SFits}
 use Rattle.std.proofs.lemmas.Int.{to_z-of_z}
+use Rattle.answers.specs.declared.answers.Answer.TheVariants.{Price}
 use Rattle.answers.proofs.Adding.{added_both, added_end}
-use Rattle.answers.proofs.Lines.{price_line}
+use Rattle.answers.proofs.Neat.{one_line}
 use Rattle.answers.proofs.writing.put_price.Goals as goal
 
 pub returns : goal.returns
@@ -26,5 +27,5 @@ returns c =
             c.put_field-at.ensures.told,
             c.put_number.ensures.short,
           );
-      one_line = price_line c.args.series s.price s.step s.place c.ranges.series fits (search rules);
+      one_line = one_line (Ok (Price c.args.series s)) (c.ranges.series, fits, search rules);
     }

@@ -1,0 +1,97 @@
+-- No two answers share a text.
+use Rattle.std.proofs.Common.{◌≡◌, ℕ, ◌^◌, ◌<◌, length, ℤ, Some, None, Ok, Err, decimal, Option, Result, IfSome, cond, eqb, sym, refl, ap, ◌∙◌, arith}
+use Rattle.std.proofs.lemmas.Fmt.{decimal_injective, signed_decimal_injective}
+use Rattle.std.specs.Fmt.{signed_decimal}
+use Rattle.house.specs.declared.answers.Settlement.{Settlement}
+use Rattle.lines.specs.Fields.{fields}
+use Rattle.rows.specs.Steps.{letter}
+use Rattle.rows.specs.declared.steps.Step.{Step}
+use Rattle.rows.specs.declared.steps.Step.TheVariants.{Auction, Trade, Quote, Average, Theory, TheoryUp, Spread, PreviousSpread, Copy, Previous, Ruling}
+use Rattle.answers.specs.Faults.{line_detail, line_number}
+use Rattle.answers.specs.Texts.{Alike, TextsApart, Typed, answer_fields, detail_fields}
+use Rattle.answers.specs.declared.answers.Answer.{Answer}
+use Rattle.answers.specs.declared.answers.Answer.TheVariants.{Done, Listed, Price}
+use Rattle.answers.specs.declared.faults.LineFault.{LineFault}
+use Rattle.answers.proofs.Neat.{fields_text, number_small, one_line, text_short, word_length}
+
+-- the step of a letter
+abbrev lettered : ℕ → Step
+lettered b =
+    cond (eqb b 65) Auction
+    (cond (eqb b 76) Trade
+    (cond (eqb b 81) Quote
+    (cond (eqb b 86) Average
+    (cond (eqb b 84) Theory
+    (cond (eqb b 85) TheoryUp
+    (cond (eqb b 83) Spread
+    (cond (eqb b 80) PreviousSpread
+    (cond (eqb b 67) Copy
+    (cond (eqb b 66) Previous Ruling)))))))))
+
+by_letter : (s : Step) → lettered (letter s) ≡ s
+by_letter Auction = refl
+by_letter Trade = refl
+by_letter Quote = refl
+by_letter Average = refl
+by_letter Theory = refl
+by_letter TheoryUp = refl
+by_letter Spread = refl
+by_letter PreviousSpread = refl
+by_letter Copy = refl
+by_letter Previous = refl
+by_letter Ruling = refl
+
+letters_apart : (s t : Step) → letter s ≡ letter t → s ≡ t
+letters_apart s t e = sym (by_letter s) ∙ ap lettered e ∙ by_letter t
+
+number_apart : (m n : ℕ) → m < 2 ^ 8 → n < 2 ^ 8 → decimal m ≡ decimal n → m ≡ n
+number_apart m n h k e = decimal_injective m n (omega arith) (omega arith) e
+
+detail_apart : (d e : Option ℕ) → IfSome d (λ n. n < 2 ^ 8) → IfSome e (λ n. n < 2 ^ 8) → detail_fields d ≡ detail_fields e → d ≡ e
+detail_apart None None h k e = refl
+detail_apart None (Some n) h k e = absurd (omega (arith, ap length e))
+detail_apart (Some m) None h k e = absurd (omega (arith, ap length e))
+detail_apart (Some m) (Some n) h k e =
+    let d : decimal m ≡ decimal n = cc in
+    ap (λ i. Some i) (number_apart m n h k d)
+
+price_apart : (y z : ℤ) (s t : Settlement) → y ≡ z → s.price ≡ t.price → s.step ≡ t.step → s.place ≡ t.place → Price y s ≡ Price z t
+price_apart y z s t e p q r = λ i. Price (e i) (record { price = p i; step = q i; place = r i })
+
+alike : (r s : Result Answer LineFault) → Typed r → Typed s → answer_fields r ≡ answer_fields s → Alike r s
+alike (Ok Done) (Ok Done) t u e = refl
+alike (Ok Done) (Ok (Listed n)) t u e = absurd (omega (arith, ap word_length e))
+alike (Ok Done) (Ok (Price z a)) t u e = absurd (omega (arith, ap word_length e))
+alike (Ok Done) (Err g) t u e = omega (arith, ap word_length e)
+alike (Ok (Listed m)) (Ok Done) t u e = absurd (omega (arith, ap word_length e))
+alike (Ok (Listed m)) (Ok (Listed n)) t u e =
+    let d : decimal m ≡ decimal n = cc in
+    ap (λ i. Listed i) (number_apart m n t u d)
+alike (Ok (Listed m)) (Ok (Price z a)) t u e = absurd (omega (arith, ap word_length e))
+alike (Ok (Listed m)) (Err g) t u e = omega (arith, ap word_length e)
+alike (Ok (Price y a)) (Ok Done) t u e = absurd (omega (arith, ap word_length e))
+alike (Ok (Price y a)) (Ok (Listed n)) t u e = absurd (omega (arith, ap word_length e))
+alike (Ok (Price y a)) (Ok (Price z b)) t u e =
+    let series : signed_decimal y ≡ signed_decimal z = cc in
+    let price : signed_decimal a.price ≡ signed_decimal b.price = cc in
+    let step : letter a.step ≡ letter b.step = cc in
+    let place : decimal a.place ≡ decimal b.place = cc in
+    price_apart y z a b (signed_decimal_injective y z t.0.sfits u.0.sfits series)
+    (signed_decimal_injective a.price b.price t.1.sfits u.1.sfits price) (letters_apart a.step b.step step)
+    (number_apart a.place b.place t.2 u.2 place)
+alike (Ok (Price y a)) (Err g) t u e = omega (arith, ap word_length e)
+alike (Err f) (Ok Done) t u e = omega (arith, ap word_length e)
+alike (Err f) (Ok (Listed n)) t u e = omega (arith, ap word_length e)
+alike (Err f) (Ok (Price z a)) t u e = omega (arith, ap word_length e)
+alike (Err f) (Err g) t u e =
+    let n : decimal (line_number f) ≡ decimal (line_number g) = cc in
+    let d : detail_fields (line_detail f) ≡ detail_fields (line_detail g) = cc in (
+      number_apart (line_number f) (line_number g) (omega (arith, number_small f)) (omega (arith, number_small g)) n,
+      detail_apart (line_detail f) (line_detail g) t u d,
+    )
+
+-- equal texts are cut into equal fields
+pub texts_apart : TextsApart
+texts_apart r s t u e = alike r s t u (sym (fields_text r t) ∙ ap fields e ∙ fields_text s u)
+
+pub ruleset laws = (text_short, one_line, texts_apart)
