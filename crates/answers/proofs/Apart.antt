@@ -9,8 +9,8 @@ use Rattle.rows.specs.declared.steps.Step.{Step}
 use Rattle.rows.specs.declared.steps.Step.TheVariants.{Auction, Trade, Quote, Average, Theory, TheoryUp, Spread, PreviousSpread, Copy, Previous, Ruling}
 use Rattle.answers.specs.Faults.{line_detail, line_number}
 use Rattle.answers.specs.Texts.{Alike, TextsApart, Typed, answer_fields, detail_fields}
-use Rattle.answers.specs.declared.answers.Answer.{Answer}
-use Rattle.answers.specs.declared.answers.Answer.TheVariants.{Done, Listed, Price}
+use Rattle.runs.specs.declared.calls.Reply.{Reply}
+use Rattle.runs.specs.declared.calls.Reply.TheVariants.{Done, Listed, Settled}
 use Rattle.answers.specs.declared.faults.LineFault.{LineFault}
 use Rattle.answers.proofs.Neat.{fields_text, number_small, one_line, text_short, word_length}
 
@@ -55,23 +55,23 @@ detail_apart (Some m) (Some n) h k e =
     let d : decimal m ≡ decimal n = cc in
     ap (λ i. Some i) (number_apart m n h k d)
 
-price_apart : (y z : ℤ) (s t : Settlement) → y ≡ z → s.price ≡ t.price → s.step ≡ t.step → s.place ≡ t.place → Price y s ≡ Price z t
-price_apart y z s t e p q r = λ i. Price (e i) (record { price = p i; step = q i; place = r i })
+price_apart : (y z : ℤ) (s t : Settlement) → y ≡ z → s.price ≡ t.price → s.step ≡ t.step → s.place ≡ t.place → Settled y s ≡ Settled z t
+price_apart y z s t e p q r = λ i. Settled (e i) (record { price = p i; step = q i; place = r i })
 
-alike : (r s : Result Answer LineFault) → Typed r → Typed s → answer_fields r ≡ answer_fields s → Alike r s
+alike : (r s : Result Reply LineFault) → Typed r → Typed s → answer_fields r ≡ answer_fields s → Alike r s
 alike (Ok Done) (Ok Done) t u e = refl
 alike (Ok Done) (Ok (Listed n)) t u e = absurd (omega (arith, ap word_length e))
-alike (Ok Done) (Ok (Price z a)) t u e = absurd (omega (arith, ap word_length e))
+alike (Ok Done) (Ok (Settled z a)) t u e = absurd (omega (arith, ap word_length e))
 alike (Ok Done) (Err g) t u e = omega (arith, ap word_length e)
 alike (Ok (Listed m)) (Ok Done) t u e = absurd (omega (arith, ap word_length e))
 alike (Ok (Listed m)) (Ok (Listed n)) t u e =
     let d : decimal m ≡ decimal n = cc in
     ap (λ i. Listed i) (number_apart m n t u d)
-alike (Ok (Listed m)) (Ok (Price z a)) t u e = absurd (omega (arith, ap word_length e))
+alike (Ok (Listed m)) (Ok (Settled z a)) t u e = absurd (omega (arith, ap word_length e))
 alike (Ok (Listed m)) (Err g) t u e = omega (arith, ap word_length e)
-alike (Ok (Price y a)) (Ok Done) t u e = absurd (omega (arith, ap word_length e))
-alike (Ok (Price y a)) (Ok (Listed n)) t u e = absurd (omega (arith, ap word_length e))
-alike (Ok (Price y a)) (Ok (Price z b)) t u e =
+alike (Ok (Settled y a)) (Ok Done) t u e = absurd (omega (arith, ap word_length e))
+alike (Ok (Settled y a)) (Ok (Listed n)) t u e = absurd (omega (arith, ap word_length e))
+alike (Ok (Settled y a)) (Ok (Settled z b)) t u e =
     let series : signed_decimal y ≡ signed_decimal z = cc in
     let price : signed_decimal a.price ≡ signed_decimal b.price = cc in
     let step : letter a.step ≡ letter b.step = cc in
@@ -79,10 +79,10 @@ alike (Ok (Price y a)) (Ok (Price z b)) t u e =
     price_apart y z a b (signed_decimal_injective y z t.0.sfits u.0.sfits series)
     (signed_decimal_injective a.price b.price t.1.sfits u.1.sfits price) (letters_apart a.step b.step step)
     (number_apart a.place b.place t.2 u.2 place)
-alike (Ok (Price y a)) (Err g) t u e = omega (arith, ap word_length e)
+alike (Ok (Settled y a)) (Err g) t u e = omega (arith, ap word_length e)
 alike (Err f) (Ok Done) t u e = omega (arith, ap word_length e)
 alike (Err f) (Ok (Listed n)) t u e = omega (arith, ap word_length e)
-alike (Err f) (Ok (Price z a)) t u e = omega (arith, ap word_length e)
+alike (Err f) (Ok (Settled z a)) t u e = omega (arith, ap word_length e)
 alike (Err f) (Err g) t u e =
     let n : decimal (line_number f) ≡ decimal (line_number g) = cc in
     let d : detail_fields (line_detail f) ≡ detail_fields (line_detail g) = cc in (

@@ -17,8 +17,8 @@ use Rattle.rows.specs.declared.steps.Step.{Step}
 use Rattle.rows.specs.declared.steps.Step.TheVariants.{Auction, Trade, Quote, Average, Theory, TheoryUp, Spread, PreviousSpread, Copy, Previous, Ruling}
 use Rattle.answers.specs.Faults.{line_detail, line_number}
 use Rattle.answers.specs.Texts.{Longest, AllOneLine, OneLine, Typed, answer_fields, answer_text, detail_fields}
-use Rattle.answers.specs.declared.answers.Answer.{Answer}
-use Rattle.answers.specs.declared.answers.Answer.TheVariants.{Done, Listed, Price}
+use Rattle.runs.specs.declared.calls.Reply.{Reply}
+use Rattle.runs.specs.declared.calls.Reply.TheVariants.{Done, Listed, Settled}
 use Rattle.answers.specs.declared.faults.LineFault.{LineFault}
 use Rattle.answers.specs.declared.faults.LineFault.TheVariants.{NoDay, SecondDay, Day, Ladders, House, NotRead, ShortBuffer}
 
@@ -102,10 +102,10 @@ number_small (House (houses.Book books.Full)) = omega arith
 number_small (NotRead e) = omega arith
 number_small ShortBuffer = omega arith
 
-fields_neat : (r : Result Answer LineFault) → Typed r → AllNeat (answer_fields r)
+fields_neat : (r : Result Reply LineFault) → Typed r → AllNeat (answer_fields r)
 fields_neat (Ok Done) t = (word_neat (codes "done") refl (omega arith), tt)
 fields_neat (Ok (Listed n)) t = (word_neat (codes "listed") refl (omega arith), (number_neat n t, tt))
-fields_neat (Ok (Price z s)) t =
+fields_neat (Ok (Settled z s)) t =
     let ends : AllNeat ((letter s.step ∷ []) ∷ decimal s.place ∷ []) = (letter_neat s.step, (number_neat s.place t.2, tt)) in
     (word_neat (codes "price") refl (omega arith), (signed_neat z t.0, (signed_neat s.price t.1, ends)))
 fields_neat (Err f) t =
@@ -150,16 +150,16 @@ detail_count : (d : Option ℕ) → length (detail_fields d) ≤ 1
 detail_count None = omega arith
 detail_count (Some n) = omega arith
 
-word_short : (r : Result Answer LineFault) → word_length (answer_fields r) ≤ 7
+word_short : (r : Result Reply LineFault) → word_length (answer_fields r) ≤ 7
 word_short (Ok Done) = omega arith
 word_short (Ok (Listed n)) = omega arith
-word_short (Ok (Price z s)) = omega arith
+word_short (Ok (Settled z s)) = omega arith
 word_short (Err f) = omega arith
 
-pub field_count : (r : Result Answer LineFault) → (0 < length (answer_fields r)) × (length (answer_fields r) ≤ 5)
+pub field_count : (r : Result Reply LineFault) → (0 < length (answer_fields r)) × (length (answer_fields r) ≤ 5)
 field_count (Ok Done) = (omega arith, omega arith)
 field_count (Ok (Listed n)) = (omega arith, omega arith)
-field_count (Ok (Price z s)) = (omega arith, omega arith)
+field_count (Ok (Settled z s)) = (omega arith, omega arith)
 field_count (Err f) = (omega arith, omega (arith, detail_count (line_detail f)))
 
 pub text_short : Longest 96
@@ -176,5 +176,5 @@ cut_spaced : (fs : List (List ℕ)) → AllNeat fs → 0 < length fs → fields 
 cut_spaced [] h l = absurd (omega arith)
 cut_spaced (f ∷ fs) h l = cut f fs h.0.clean h.1
 
-pub fields_text : (r : Result Answer LineFault) → Typed r → fields (answer_text r) ≡ answer_fields r
+pub fields_text : (r : Result Reply LineFault) → Typed r → fields (answer_text r) ≡ answer_fields r
 fields_text r t = cut_spaced (answer_fields r) (fields_neat r t) (field_count r).0

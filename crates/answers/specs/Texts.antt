@@ -4,8 +4,8 @@ use Rattle.std.specs.Int.{w64}
 use Rattle.std.specs.Fmt.{signed_decimal}
 use Rattle.rows.specs.Steps.{letter}
 use Rattle.lines.specs.Fields.{spaced}
-use Rattle.answers.specs.declared.answers.Answer.{Answer}
-use Rattle.answers.specs.declared.answers.Answer.TheVariants.{Done, Listed, Price}
+use Rattle.runs.specs.declared.calls.Reply.{Reply}
+use Rattle.runs.specs.declared.calls.Reply.TheVariants.{Done, Listed, Settled}
 use Rattle.answers.specs.declared.faults.LineFault.{LineFault}
 use Rattle.answers.specs.Faults.{line_detail, line_number}
 
@@ -14,39 +14,39 @@ detail_fields None = []
 detail_fields (Some n) = decimal n ∷ []
 
 -- the origin stands after 10, and the place in the line after 11
-abbrev pub answer_fields : Result Answer LineFault → List (List ℕ)
+abbrev pub answer_fields : Result Reply LineFault → List (List ℕ)
 answer_fields (Ok Done) = codes "done" ∷ []
 answer_fields (Ok (Listed n)) = codes "listed" ∷ decimal n ∷ []
-answer_fields (Ok (Price series s)) =
+answer_fields (Ok (Settled series s)) =
     codes "price" ∷ signed_decimal series ∷ signed_decimal s.price ∷ (letter s.step ∷ []) ∷ decimal s.place ∷ []
 answer_fields (Err f) = codes "refused" ∷ decimal (line_number f) ∷ detail_fields (line_detail f)
 
 -- with one space between two fields
-abbrev pub answer_text : Result Answer LineFault → List ℕ
+abbrev pub answer_text : Result Reply LineFault → List ℕ
 answer_text r = spaced (answer_fields r)
 
 -- ---- laws of the texts
 
 -- the numbers fit their Rust types
-abbrev pub Typed : Result Answer LineFault → Type 0
+abbrev pub Typed : Result Reply LineFault → Type 0
 Typed (Ok Done) = Unit {0}
 Typed (Ok (Listed n)) = n < 2 ^ 8
-Typed (Ok (Price series s)) = FitsSigned w64 series × FitsSigned w64 s.price × (s.place < 2 ^ 8)
+Typed (Ok (Settled series s)) = FitsSigned w64 series × FitsSigned w64 s.price × (s.place < 2 ^ 8)
 Typed (Err f) = IfSome (line_detail f) (λ n. n < 2 ^ 8)
 
 -- no answer is longer than n bytes
 abbrev pub Longest : ℕ → Type 0
-Longest n = (r : Result Answer LineFault) → Typed r → length (answer_text r) ≤ n
+Longest n = (r : Result Reply LineFault) → Typed r → length (answer_text r) ≤ n
 
 -- a text with no newline byte in it
 abbrev pub OneLine : List ℕ → Type 0
 OneLine text = All (λ b. b ≢ 10) text
 
 abbrev pub AllOneLine : Type 0
-AllOneLine = (r : Result Answer LineFault) → Typed r → OneLine (answer_text r)
+AllOneLine = (r : Result Reply LineFault) → Typed r → OneLine (answer_text r)
 
 -- equal answers, or refusals with the same number and the same origin or place
-abbrev pub Alike : Result Answer LineFault → Result Answer LineFault → Type 0
+abbrev pub Alike : Result Reply LineFault → Result Reply LineFault → Type 0
 Alike (Ok a) (Ok b) = a ≡ b
 Alike (Ok a) (Err g) = ⊥
 Alike (Err f) (Ok b) = ⊥
@@ -55,4 +55,4 @@ Alike (Err f) (Err g) = (line_number f ≡ line_number g) × (line_detail f ≡ 
 -- a text tells its answer: no two share one
 abbrev pub TextsApart : Type 0
 TextsApart =
-    (r s : Result Answer LineFault) → Typed r → Typed s → answer_text r ≡ answer_text s → Alike r s
+    (r s : Result Reply LineFault) → Typed r → Typed s → answer_text r ≡ answer_text s → Alike r s

@@ -1,7 +1,6 @@
 // What a line of input is answered, in bytes.
 #![tactic(auto)]
 
-pub mod answers;
 pub mod faults;
 #[cfg(test)]
 mod tests;

@@ -1,5 +1,4 @@
 // Examples: each kind of answer in a buffer of dots, and a buffer that is too short.
-use crate::answers::Answer;
 use crate::faults::LineFault;
 use crate::writing::write_answer;
 use book::faults::{BookFault, DayFault};
@@ -8,18 +7,20 @@ use house::faults::HouseFault;
 use ladders::faults::LadderFault;
 use lines::faults::NotRead;
 use rows::steps::Step;
+use runs::calls::Reply;
+use runs::calls::Reply;
 
-fn price(series: i64, price: i64, step: Step, place: u8) -> Result<Answer, LineFault> {
+fn price(series: i64, price: i64, step: Step, place: u8) -> Result<Reply, LineFault> {
     let settlement = Settlement { price, step, place };
-    Ok(Answer::Price { series, settlement })
+    Ok(Reply::Settled { series, settlement })
 }
 
 #[test]
 fn taken(rt: HostRuntime) {
     let mut out = [b'.'; 96];
-    assert_eq!(rt; write_answer(&Ok(Answer::Done), &mut out), Ok(4));
+    assert_eq!(rt; write_answer(&Ok(Reply::Done), &mut out), Ok(4));
     assert!(rt; out.starts_with(b"done.."));
-    assert_eq!(rt; write_answer(&Ok(Answer::Listed(31)), &mut out), Ok(9));
+    assert_eq!(rt; write_answer(&Ok(Reply::Listed(31)), &mut out), Ok(9));
     assert!(rt; out.starts_with(b"listed 31.."));
 }
 
@@ -60,7 +61,7 @@ fn numbers(rt: HostRuntime) {
 fn a_short_buffer(rt: HostRuntime) {
     let mut out = [b'.'; 95];
     assert_eq!(rt;
-        write_answer(&Ok(Answer::Done), &mut out),
+        write_answer(&Ok(Reply::Done), &mut out),
         Err(LineFault::ShortBuffer)
     );
     assert_eq!(rt; out, [b'.'; 95]);

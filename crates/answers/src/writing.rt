@@ -5,10 +5,11 @@ ghost use Rattle.std.specs.Prelude.{◌≡◌, ◌+◌, ◌≤◌, [], ◌∷◌
 ghost use Rattle.answers.specs.Texts.{answer_text, AllOneLine, Longest, OneLine, TextsApart};
 ghost use Rattle.answers.specs.Written.{Added, Begins, Replied};
 
-use crate::answers::Answer;
 use crate::faults::LineFault;
 use house::answers::Settlement;
 use itoa::{Buffer, Integer};
+use runs::calls::Reply;
+use runs::calls::Reply;
 
 // A buffer of so many bytes has room for every answer.
 pub const ROOM: usize = 96;
@@ -55,14 +56,14 @@ fn put_number<I: Integer>(out: &mut [u8], at: usize, number: I) -> usize
 
 fn put_done(out: &mut [u8]) -> usize
     requires { 96 ≤ length out.old }
-    ensures { Begins out.old (answer_text (Ok Answer.Done)) out.new result }
+    ensures { Begins out.old (answer_text (Ok Reply.Done)) out.new result }
 {
     put(out, 0, b"done")
 }
 
 fn put_listed(out: &mut [u8], series: u8) -> usize
     requires { 96 ≤ length out.old }
-    ensures { Begins out.old (answer_text (Ok (Answer.Listed series))) out.new result }
+    ensures { Begins out.old (answer_text (Ok (Reply.Listed series))) out.new result }
 {
     let at = put(out, 0, b"listed");
     put_number(out, at, series)
@@ -70,7 +71,7 @@ fn put_listed(out: &mut [u8], series: u8) -> usize
 
 fn put_price(out: &mut [u8], series: i64, settlement: Settlement) -> usize
     requires { 96 ≤ length out.old }
-    ensures { Begins out.old (answer_text (Ok (Answer.Price series settlement))) out.new result }
+    ensures { Begins out.old (answer_text (Ok (Reply.Settled series settlement))) out.new result }
 {
     let at = put(out, 0, b"price");
     let at = put_number(out, at, series);
@@ -92,7 +93,7 @@ fn put_refused(out: &mut [u8], fault: LineFault) -> usize
 }
 
 // Writes the answer to a line at the front of the buffer, and tells how many bytes it has.
-pub fn write_answer(answer: &Result<Answer, LineFault>, out: &mut [u8]) -> Result<usize, LineFault>
+pub fn write_answer(answer: &Result<Reply, LineFault>, out: &mut [u8]) -> Result<usize, LineFault>
     ensures replied { Replied (answer_text answer.now) out.old result out.new }
     ensures short { IfOk result (λ n. n ≤ 96) }
     ensures one_line { OnOk result (OneLine (answer_text answer.now)) }
@@ -101,9 +102,9 @@ pub fn write_answer(answer: &Result<Answer, LineFault>, out: &mut [u8]) -> Resul
         return Err(LineFault::ShortBuffer);
     }
     Ok(match *answer {
-        Ok(Answer::Done) => put_done(out),
-        Ok(Answer::Listed(series)) => put_listed(out, series),
-        Ok(Answer::Price { series, settlement }) => put_price(out, series, settlement),
+        Ok(Reply::Done) => put_done(out),
+        Ok(Reply::Listed(series)) => put_listed(out, series),
+        Ok(Reply::Settled { series, settlement }) => put_price(out, series, settlement),
         Err(fault) => put_refused(out, fault),
     })
 }

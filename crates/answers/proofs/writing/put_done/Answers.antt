@@ -1,5 +1,5 @@
 use Rattle.std.proofs.Common.{Ok, arith}
-use Rattle.answers.specs.declared.answers.Answer.TheVariants.{Done}
+use Rattle.runs.specs.declared.calls.Reply.TheVariants.{Done}
 use Rattle.answers.proofs.Neat.{one_line}
 use Rattle.answers.proofs.writing.put_done.Goals as goal
 

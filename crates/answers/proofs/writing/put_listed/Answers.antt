@@ -1,5 +1,5 @@
 use Rattle.std.proofs.Common.{Ok, arith}
-use Rattle.answers.specs.declared.answers.Answer.TheVariants.{Listed}
+use Rattle.runs.specs.declared.calls.Reply.TheVariants.{Listed}
 use Rattle.answers.proofs.Adding.{added_both, added_end}
 use Rattle.answers.proofs.Neat.{one_line}
 use Rattle.answers.proofs.writing.put_listed.Goals as goal

@@ -1,6 +1,6 @@
 use Rattle.std.proofs.Common.{Ok, sym, rules, arith, w64, SFits}
 use Rattle.std.proofs.lemmas.Int.{to_z-of_z}
-use Rattle.answers.specs.declared.answers.Answer.TheVariants.{Price}
+use Rattle.runs.specs.declared.calls.Reply.TheVariants.{Settled}
 use Rattle.answers.proofs.Adding.{added_both, added_end}
 use Rattle.answers.proofs.Neat.{one_line}
 use Rattle.answers.proofs.writing.put_price.Goals as goal
@@ -27,5 +27,5 @@ returns c =
             c.put_field-at.ensures.told,
             c.put_number.ensures.short,
           );
-      one_line = one_line (Ok (Price c.args.series s)) (c.ranges.series, fits, search rules);
+      one_line = one_line (Ok (Settled c.args.series s)) (c.ranges.series, fits, search rules);
     }
