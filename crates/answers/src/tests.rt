@@ -8,7 +8,6 @@ use ladders::faults::LadderFault;
 use lines::faults::NotRead;
 use rows::steps::Step;
 use runs::calls::Reply;
-use runs::calls::Reply;
 
 fn price(series: i64, price: i64, step: Step, place: u8) -> Result<Reply, LineFault> {
     let settlement = Settlement { price, step, place };

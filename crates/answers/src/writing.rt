@@ -9,7 +9,6 @@ use crate::faults::LineFault;
 use house::answers::Settlement;
 use itoa::{Buffer, Integer};
 use runs::calls::Reply;
-use runs::calls::Reply;
 
 // A buffer of so many bytes has room for every answer.
 pub const ROOM: usize = 96;

@@ -7,4 +7,4 @@ mod Apart
 mod Neat
 mod Parsings
 mod Ends
-mod Writings
+pub mod Writings

@@ -101,8 +101,14 @@ pub parsed_alone : (line : List ℕ) (r : Result LineCall NotRead) → Parsed li
 parsed_alone line (Ok c) h = λ d b e. written_apart d c b h.0 (sym e ∙ h.1)
 parsed_alone line (Err e) h = λ p a. place_one line p e.place a h.1
 
+pub one_reading : (line : List ℕ) (r q : Result LineCall NotRead) → Parsed line r → Parsed line q → r ≡ q
+one_reading line (Ok c) (Ok d) h k = ap Ok (written_apart c d h.0 k.0 (sym h.1 ∙ k.1))
+one_reading line (Ok c) (Err e) h k = absurd (k.0 c h.0 h.1)
+one_reading line (Err e) (Ok d) h k = absurd (h.0 d k.0 k.1)
+one_reading line (Err e) (Err f) h k = ap (λ p. Err (record { place = p })) (place_one line e.place f.place h.1 k.1)
+
 pub parsed_within : (line : List ℕ) (r : Result LineCall NotRead) → Parsed line r → Within line r
 parsed_within line (Ok c) h = omega (arith, ap length h.1, written_short c h.0)
 parsed_within line (Err e) h = place_within line e.place h.1
 
-pub ruleset grammar = (written_short, written_apart, place_one, fields_end, parsed_alone, parsed_within, parsed_long, parsed_unknown, parsed_read)
+pub ruleset grammar = (written_short, written_apart, place_one, one_reading, fields_end, parsed_alone, parsed_within, parsed_long, parsed_unknown, parsed_read)

@@ -132,6 +132,10 @@ Longest n = (c : LineCall) → BriefCall c → length (written c) ≤ n
 abbrev pub WritingsApart : Type 0
 WritingsApart = (c d : LineCall) → BriefCall c → BriefCall d → written c ≡ written d → c ≡ d
 
+-- no line is read in two ways
+abbrev pub OneReading : Type 0
+OneReading = (line : List ℕ) (r q : Result LineCall NotRead) → Parsed line r → Parsed line q → r ≡ q
+
 -- no line has two places
 abbrev pub OnePlace : Type 0
 OnePlace = (line : List ℕ) (p q : ℕ) → Place line p → Place line q → p ≡ q

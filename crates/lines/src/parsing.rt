@@ -3,7 +3,7 @@
 
 ghost use Rattle.std.specs.Prelude.{◌≡◌};
 ghost use Rattle.lines.specs.Reading.{ReadFrom};
-ghost use Rattle.lines.specs.Spelled.{Alone, FieldsEnd, Longest, Named, OnePlace, Parsed, Within, WritingsApart, values};
+ghost use Rattle.lines.specs.Spelled.{Alone, FieldsEnd, Longest, Named, OnePlace, OneReading, Parsed, Within, WritingsApart, values};
 ghost use Rattle.lines.specs.declared.calls.LineCall.TheVariants as lines;
 ghost use Rattle.lines.specs.declared.names.Command.TheVariants as commands;
 ghost use Rattle.runs.specs.declared.calls.Call.TheVariants as calls;
@@ -187,11 +187,12 @@ pub fn parse(line: &[u8]) -> Result<LineCall, NotRead>
 }
 
 // How long the line of a call can be. Its clauses are the laws of the grammar: no call has a longer line, no two calls share
-// one, no line has two places, and a line's fields end where the line does.
+// one, no line is read in two ways or has two places, and a line's fields end where the line does.
 pub fn longest_line() -> usize
     ensures value { result ≡ 200 }
     ensures longest { Longest result }
     ensures apart { WritingsApart }
+    ensures reading { OneReading }
     ensures place { OnePlace }
     ensures end { FieldsEnd }
 {

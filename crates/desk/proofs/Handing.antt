@@ -1,0 +1,51 @@
+-- A call handed to the house of a desk.
+use Rattle.std.proofs.Common.{◌≡◌, false, is_ok, Some, None, Option, Ok, Err, IfErr, Result, refl}
+use Rattle.std.proofs.lemmas.Bool.{cond-false}
+use Rattle.book.specs.Ledgers.{Ledger}
+use Rattle.ladders.specs.declared.sets.SetOf.{SetOf}
+use Rattle.ladders.specs.declared.ticks.Tick.{Tick}
+use Rattle.house.specs.declared.faults.HouseFault.{HouseFault}
+use Rattle.house.specs.declared.houses.House.{House}
+use Rattle.runs.specs.Runs.{next, reply, world}
+use Rattle.runs.specs.declared.calls.Call.{Call}
+use Rattle.runs.specs.declared.calls.Reply.{Reply}
+use Rattle.runs.proofs.Refusals.{refused_stays}
+use Rattle.lines.specs.declared.calls.LineCall.{LineCall}
+use Rattle.lines.specs.declared.calls.LineCall.TheVariants as lines
+use Rattle.desk.specs.Desks.{Begun, Standing, begun_by, by_house, call_after, call_answer, day_answer, day_begun, desk_after, desk_answer, house_after, lawful_on, waiting, world_of}
+
+-- a desk with this house
+abbrev with_house : {bound : _} → House (SetOf Tick) bound → Ledger → Standing
+with_house h m = record { begun = Some (begun_by h); book = m }
+
+-- what stands after the house has taken or refused a call
+pub handed : {bound : _} (h k : House (SetOf Tick) bound) (m n : Ledger) (c : Call) → world k n ≡ next (begun_by h).ladders (begun_by h).lawful c (world h m) → k.set ≡ h.set → with_house k n ≡ house_after (begun_by h) m c
+handed h k m n c after set = λ i. record {
+  begun = Some (record { ladders = (set i).count; lawful = lawful_on (set i); state = (after i).state });
+  book = (after i).book;
+}
+
+-- ---- a refused call changes nothing
+
+-- what is refused has no reply
+none_taken : {A E : Type 0} (r : Result A E) (P : Type 0) → (is_ok r ≡ false → P) → IfErr r (λ f. P)
+none_taken (Ok a) P p = tt
+none_taken (Err f) P p = p refl
+
+house_refusal : (r : Result Reply HouseFault) (P : Type 0) → (is_ok r ≡ false → P) → IfErr (by_house r) (λ f. P)
+house_refusal (Ok a) P p = tt
+house_refusal (Err f) P p = p refl
+
+pub refusal_stays : (s : Standing) (c : LineCall) → IfErr (call_answer s c) (λ f. call_after s c ≡ s)
+refusal_stays s c = stays s.begun s.book c
+  where
+    stays : (o : Option Begun) (m : Ledger) (c : LineCall) → IfErr (desk_answer o m c) (λ f. desk_after o m c ≡ record { begun = o; book = m })
+    stays None m (lines.Day d ticks) = none_taken (day_answer d ticks) _ (λ h. cond-false (is_ok (day_answer d ticks)) (day_begun d ticks m) (waiting m) h)
+    stays None m (lines.Call c) = refl
+    stays (Some b) m (lines.Day d ticks) = refl
+    stays (Some b) m (lines.Call c) =
+        house_refusal (reply b.ladders b.lawful c (world_of b m)) _
+        (λ h i. record {
+          begun = Some (record { ladders = b.ladders; lawful = b.lawful; state = (refused_stays b.ladders b.lawful c (world_of b m) h i).state });
+          book = (refused_stays b.ladders b.lawful c (world_of b m) h i).book;
+        })

@@ -1,0 +1,105 @@
+// The desk.
+#![tactic(auto, using(lines::proofs::Writings::one_reading))]
+
+ghost use Rattle.std.specs.Prelude.{◌≡◌, ◌≤◌, IfErr, IfOk};
+ghost use Rattle.book.specs.Ledgers.{Ledger};
+ghost use Rattle.lines.specs.Spelled.{OneReading};
+ghost use Rattle.desk.specs.Desks.{call_after, call_answer, standing, waiting};
+ghost use Rattle.desk.specs.Responses.{Heard, Responded};
+
+use answers::faults::LineFault;
+use answers::writing::{ROOM, write_answer};
+use book::books::Reusable;
+use book::days::Day;
+use book::lawful::LawfulDay;
+use house::houses::House;
+use ladders::sets::EvenSet;
+use lines::calls::LineCall;
+use lines::parsing::parse;
+use runs::calls::{Call, Reply};
+use runs::performing::perform;
+
+// No house stands before a day line. The desk has no book: one is lent with each line, and the day line begins it anew.
+#[derive(Drop)]
+pub struct Desk {
+    house: Option<House<EvenSet>>,
+}
+
+impl Desk {
+    pub fn new() -> Desk
+        ensures { (m : Ledger) → standing result m ≡ waiting m }
+    {
+        Desk { house: None }
+    }
+
+    // Begins the day, with a new house and an empty book.
+    fn begin<B: Reusable>(
+        &mut self,
+        book: &mut B,
+        day: Day,
+        ticks: &[i64],
+    ) -> Result<Reply, LineFault>
+        ensures answer { result ≡ call_answer (standing self.old (B.Book.meaning book.old)) (LineCall.Day day ticks.now) }
+        ensures after { standing self.new (B.Book.meaning book.new) ≡ call_after (standing self.old (B.Book.meaning book.old)) (LineCall.Day day ticks.now) }
+    {
+        if self.house.is_some() {
+            return Err(LineFault::SecondDay);
+        }
+        let day = LawfulDay::new(day)?;
+        let set = EvenSet::new(ticks)?;
+        book.begin(day);
+        self.house = Some(House::new(set));
+        Ok(Reply::Done)
+    }
+
+    // Hands a call to the house, if there is one.
+    fn hand<B: Reusable>(&mut self, book: &mut B, call: &Call) -> Result<Reply, LineFault>
+        ensures answer { result ≡ call_answer (standing self.old (B.Book.meaning book.old)) (LineCall.Call call.now) }
+        ensures after { standing self.new (B.Book.meaning book.new) ≡ call_after (standing self.old (B.Book.meaning book.old)) (LineCall.Call call.now) }
+    {
+        let Some(house) = self.house.as_mut() else {
+            return Err(LineFault::NoDay);
+        };
+        Ok(perform(house, book, call)?)
+    }
+
+    // Makes a call, or refuses it and changes nothing.
+    pub fn call<B: Reusable>(&mut self, book: &mut B, call: LineCall) -> Result<Reply, LineFault>
+        ensures answer { result ≡ call_answer (standing self.old (B.Book.meaning book.old)) call }
+        ensures after { standing self.new (B.Book.meaning book.new) ≡ call_after (standing self.old (B.Book.meaning book.old)) call }
+        ensures refused { IfErr result (λ _. standing self.new (B.Book.meaning book.new) ≡ standing self.old (B.Book.meaning book.old)) }
+    {
+        match call {
+            LineCall::Day { day, ticks } => self.begin(book, day, &ticks),
+            LineCall::Call(call) => self.hand(book, &call),
+        }
+    }
+
+    // Reads a line and makes its call.
+    fn hear<B: Reusable>(&mut self, book: &mut B, line: &[u8]) -> Result<Reply, LineFault>
+        ensures heard { Heard line.now (standing self.old (B.Book.meaning book.old)) result (standing self.new (B.Book.meaning book.new)) }
+        ensures refused { IfErr result (λ _. standing self.new (B.Book.meaning book.new) ≡ standing self.old (B.Book.meaning book.old)) }
+    {
+        let call = parse(line)?;
+        self.call(book, call)
+    }
+
+    // Answers a line: writes the answer at the front of the buffer, and tells how many bytes it has. A short buffer is refused
+    // before the line is looked at.
+    pub fn respond<B: Reusable>(
+        &mut self,
+        book: &mut B,
+        line: &[u8],
+        out: &mut [u8],
+    ) -> Result<usize, LineFault>
+        ensures responded { Responded line.now (standing self.old (B.Book.meaning book.old)) out.old result out.new (standing self.new (B.Book.meaning book.new)) }
+        ensures short { IfOk result (λ n. n ≤ 96) }
+        ensures reading { OneReading }
+    {
+        if out.len() < ROOM {
+            return Err(LineFault::ShortBuffer);
+        }
+        let answer = self.hear(book, line);
+        write_answer(&answer, out)
+    }
+}

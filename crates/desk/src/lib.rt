@@ -1,0 +1,4 @@
+// A desk: lines come in, and answers go out.
+#![tactic(auto)]
+
+pub mod desks;
