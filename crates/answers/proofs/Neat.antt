@@ -1,6 +1,6 @@
 -- The fields of an answer: at most 20 bytes each, all above a space. So a text is one line, has at most 96 bytes, and is cut at
 -- its spaces into the fields again.
-use Rattle.std.proofs.Common.{◌≡◌, ℕ, suc, ◌*◌, ◌^◌, ◌<◌, ◌≤◌, ◌≢◌, true, List, [], ◌∷◌, ◌++◌, length, ℤ, pos, negsuc, Some, None, Ok, Err, decimal, Option, Result, IfSome, nat_lt, codes, w64, SFits, refl, ap, arith, length-append, ne_eqb}
+use Rattle.std.proofs.Common.{◌≡◌, ℕ, suc, ◌*◌, ◌^◌, ◌<◌, ◌≤◌, ◌≢◌, true, List, [], ◌∷◌, ◌++◌, length, ℤ, pos, negsuc, Some, None, Ok, Err, decimal, Option, Result, All, IfSome, nat_lt, codes, w64, SFits, refl, ap, arith, length-append, ne_eqb}
 use Rattle.std.proofs.lemmas.Fmt.{digits_decimal, length-decimal-le, length_signed_le}
 use Rattle.std.proofs.lemmas.Int.{ints}
 use Rattle.std.proofs.lemmas.List.Elements.{All-append, All-cons, All-from_get_or, All-from_recursion, All-nil, All-weaker, recursion_from_All}
@@ -16,7 +16,7 @@ use Rattle.rows.specs.Steps.{letter}
 use Rattle.rows.specs.declared.steps.Step.{Step}
 use Rattle.rows.specs.declared.steps.Step.TheVariants.{Auction, Trade, Quote, Average, Theory, TheoryUp, Spread, PreviousSpread, Copy, Previous, Ruling}
 use Rattle.answers.specs.Faults.{line_detail, line_number}
-use Rattle.answers.specs.Texts.{Longest, AllOneLine, OneLine, Typed, answer_fields, answer_text, detail_fields}
+use Rattle.answers.specs.Texts.{Longest, AllOneLine, Typed, answer_fields, answer_text, detail_fields}
 use Rattle.runs.specs.declared.calls.Reply.{Reply}
 use Rattle.runs.specs.declared.calls.Reply.TheVariants.{Done, Listed, Settled}
 use Rattle.answers.specs.declared.faults.LineFault.{LineFault}
@@ -114,22 +114,25 @@ fields_neat (Err f) t =
 
 -- ---- one line
 
-field_line : (f : List ℕ) → Neat f → OneLine f
+abbrev Unbroken : List ℕ → Type 0
+Unbroken f = All (λ b. b ≢ 10) f
+
+field_line : (f : List ℕ) → Neat f → Unbroken f
 field_line f n =
     All-weaker Above (λ b. b ≢ 10) (λ b h e. omega arith) f (All-from_recursion Above f n.clean)
 
-trailed_line : (fs : List (List ℕ)) → AllNeat fs → OneLine (trailed fs)
+trailed_line : (fs : List (List ℕ)) → AllNeat fs → Unbroken (trailed fs)
 trailed_line [] h = All-nil (λ b. b ≢ 10)
 trailed_line (f ∷ fs) h =
     All-cons (λ b. b ≢ 10) 32 (f ++ trailed fs) (λ e. omega arith)
     (All-append (λ b. b ≢ 10) f (trailed fs) (field_line f h.0) (trailed_line fs h.1))
 
-spaced_line : (fs : List (List ℕ)) → AllNeat fs → OneLine (spaced fs)
+spaced_line : (fs : List (List ℕ)) → AllNeat fs → Unbroken (spaced fs)
 spaced_line [] h = All-nil (λ b. b ≢ 10)
 spaced_line (f ∷ fs) h = All-append (λ b. b ≢ 10) f (trailed fs) (field_line f h.0) (trailed_line fs h.1)
 
 pub one_line : AllOneLine
-one_line r t = spaced_line (answer_fields r) (fields_neat r t)
+one_line r t = record { no_newline = spaced_line (answer_fields r) (fields_neat r t) }
 
 -- ---- how long a text is
 

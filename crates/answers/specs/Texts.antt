@@ -39,8 +39,8 @@ abbrev pub Longest : ℕ → Type 0
 Longest n = (r : Result Reply LineFault) → Typed r → length (answer_text r) ≤ n
 
 -- a text with no newline byte in it
-abbrev pub OneLine : List ℕ → Type 0
-OneLine text = All (λ b. b ≢ 10) text
+pub record OneLine (text : List ℕ) : Type 0 where
+  pub no_newline : All (λ b. b ≢ 10) text
 
 abbrev pub AllOneLine : Type 0
 AllOneLine = (r : Result Reply LineFault) → Typed r → OneLine (answer_text r)

@@ -1,5 +1,6 @@
-use Rattle.answers.proofs.Adding.{added_both}
+use Rattle.std.proofs.Common.{rules}
+use Rattle.answers.proofs.Adding.{added_field}
 use Rattle.answers.proofs.writing.put_field.Goals as goal
 
 pub returns : goal.returns
-returns c = added_both _ _ _ _ _ _ _ _ c.put-start.ensures c.put.ensures
+returns c = search (rules, added_field)
