@@ -4,7 +4,7 @@ mod OnePlace
 mod Numbers
 mod Made
 mod Apart
-mod Neat
+pub mod Neat
 mod Parsings
 mod Ends
 pub mod Writings

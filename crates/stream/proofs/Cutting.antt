@@ -1,0 +1,117 @@
+-- How an input falls into lines, and what is held of a line.
+use Rattle.std.proofs.Common.{◌≡◌, ◌≢◌, ℕ, ◌+◌, ◌<◌, ◌≤◌, Bool, true, false, cond, eqb, List, [], ◌∷◌, ◌++◌, length, take, set, All, refl, sym, ap, ◌∙◌, ⊎_elim, arith}
+use Rattle.std.proofs.lemmas.Bool.{cases_eq, cases_lt, cond-false, ne_eqb}
+use Rattle.std.proofs.lemmas.List.{append-nil, append_assoc, length-take, length-take-le, length_push, take-append-le, take-take, take_all, take_more_set}
+use Rattle.std.proofs.lemmas.List.Concat.{flat_map-append}
+use Rattle.std.proofs.lemmas.List.Elements.{All-append, All-cons, All-head, All-nil, All-tail}
+use Rattle.lines.specs.Fields.{onto}
+use Rattle.stream.specs.Inputs.{AllSplit, SplitLines, Splits, Unbroken, ended, last_line, lines_of}
+use Rattle.stream.specs.Held.{held}
+
+-- ---- what is held of a line
+
+-- what is held of a whole line
+pub held_short : (line : List ℕ) → length line ≤ 201 → held line ≡ line
+held_short line h = take_all 201 line h
+
+-- of what is held, and of the line, the same is held after one byte more
+pub held_more : (line : List ℕ) (b : ℕ) → held (held line ++ (b ∷ [])) ≡ held (line ++ (b ∷ []))
+held_more line b =
+    ⊎_elim
+    (λ h. take-append-le 201 (held line) (b ∷ []) (omega (arith, length-take-le 201 line (omega arith))) ∙ take-take 201 201 line (omega arith) ∙ sym (take-append-le 201 line (b ∷ []) (omega arith)))
+    (λ h. ap (λ l. held (l ++ (b ∷ []))) (held_short line (omega arith)))
+    (cases_lt 201 (length line))
+
+-- a byte written behind the first n of 201 places
+pub held_written : (bytes : List ℕ) (n b : ℕ) → length bytes ≡ 201 → n < 201 → take (n + 1) (set bytes n b) ≡ held (take n bytes ++ (b ∷ []))
+held_written bytes n b size room =
+    take_more_set bytes n b (omega arith)
+    ∙ sym (held_short (take n bytes ++ (b ∷ [])) (omega (arith, length_push (take n bytes) b, length-take-le n bytes (omega arith))))
+
+-- when all places are taken no more is held
+pub held_full : (bytes : List ℕ) (n b : ℕ) → length bytes ≡ 201 → n ≡ 201 → take n bytes ≡ held (take n bytes ++ (b ∷ []))
+held_full bytes n b size full =
+    let taken : length (take n bytes) ≡ n = length-take-le n bytes (omega arith) in
+    sym (take-append-le 201 (take n bytes) (b ∷ []) (omega arith) ∙ held_short (take n bytes) (omega arith))
+
+-- ---- pieces of an input
+
+-- a piece without a newline goes on with the line
+pub splits_open : (line : List ℕ) → Unbroken line → Splits line [] line
+splits_open line h = record { whole = refl; unbroken = All-nil Unbroken; open_end = h }
+
+-- a newline ends it
+pub splits_ended : (line : List ℕ) → Unbroken line → Splits (line ++ (10 ∷ [])) (line ∷ []) []
+splits_ended line h = record {
+  whole = sym (append-nil (ended (line ∷ [])) ∙ append-nil (line ++ (10 ∷ [])));
+  unbroken = All-cons Unbroken line [] h (All-nil Unbroken);
+  open_end = All-nil (λ b. b ≢ 10);
+}
+
+-- what follows falls into lines behind the rest of what came before
+pub splits_join : (input more : List ℕ) (ls ms : List (List ℕ)) (rest last : List ℕ) → Splits input ls rest → Splits (rest ++ more) ms last → Splits (input ++ more) (ls ++ ms) last
+splits_join input more ls ms rest last a b = record {
+  whole =
+      ap (λ xs. xs ++ more) a.whole
+      ∙ append_assoc (ended ls) rest more
+      ∙ ap (λ xs. ended ls ++ xs) b.whole
+      ∙ sym (append_assoc (ended ls) (ended ms) last)
+      ∙ ap (λ xs. xs ++ last) (sym (flat_map-append (λ line. line ++ (10 ∷ [])) ls ms));
+  unbroken = All-append Unbroken ls ms a.unbroken b.unbroken;
+  open_end = b.open_end;
+}
+
+-- ---- the lines of an input
+
+ended_first : (line more : List ℕ) → Unbroken line → lines_of (line ++ (10 ∷ more)) ≡ line ∷ lines_of more
+ended_first [] more h = refl
+ended_first (b ∷ bs) more h =
+    cond-false (eqb b 10) _ (onto b (lines_of (bs ++ (10 ∷ more)))) (ne_eqb b 10 (All-head (λ b. b ≢ 10) b bs h))
+    ∙ ap (onto b) (ended_first bs more (All-tail (λ b. b ≢ 10) b bs h))
+
+rest_last : (rest : List ℕ) → Unbroken rest → lines_of rest ≡ last_line rest
+rest_last [] h = refl
+rest_last (b ∷ bs) h =
+    cond-false (eqb b 10) _ (onto b (lines_of bs)) (ne_eqb b 10 (All-head (λ b. b ≢ 10) b bs h))
+    ∙ ap (onto b) (rest_last bs (All-tail (λ b. b ≢ 10) b bs h))
+    ∙ onto_last bs
+  where
+    onto_last : (bs : List ℕ) → onto b (last_line bs) ≡ (b ∷ bs) ∷ []
+    onto_last [] = refl
+    onto_last (c ∷ cs) = refl
+
+split_lines : (ls : List (List ℕ)) (rest : List ℕ) → All Unbroken ls → Unbroken rest → lines_of (ended ls ++ rest) ≡ ls ++ last_line rest
+split_lines [] rest h k = rest_last rest k
+split_lines (l ∷ ls) rest h k =
+    ap lines_of (append_assoc (l ++ (10 ∷ [])) (ended ls) rest ∙ append_assoc l (10 ∷ []) (ended ls ++ rest))
+    ∙ ended_first l (ended ls ++ rest) (All-head Unbroken l ls h)
+    ∙ ap (λ ms. l ∷ ms) (split_lines ls rest (All-tail Unbroken l ls h) k)
+
+pub lines_split : SplitLines
+lines_split input ls rest s = ap lines_of s.whole ∙ split_lines ls rest s.unbroken s.open_end
+
+-- one byte before an input that is split
+byte_before : (b : ℕ) (input : List ℕ) (ls : List (List ℕ)) (rest : List ℕ) → b ≢ 10 → Splits input ls rest → (ms : List (List ℕ)) × (last : List ℕ) × Splits (b ∷ input) ms last
+byte_before b input [] rest h s = ([], b ∷ rest, record {
+  whole = ap (λ xs. b ∷ xs) s.whole;
+  unbroken = s.unbroken;
+  open_end = All-cons (λ b. b ≢ 10) b rest h s.open_end;
+})
+byte_before b input (l ∷ ls) rest h s = ((b ∷ l) ∷ ls, rest, record {
+  whole = ap (λ xs. b ∷ xs) s.whole;
+  unbroken = All-cons Unbroken (b ∷ l) ls (All-cons (λ b. b ≢ 10) b l h (All-head Unbroken l ls s.unbroken)) (All-tail Unbroken l ls s.unbroken);
+  open_end = s.open_end;
+})
+
+pub all_split : AllSplit
+all_split [] = ([], [], splits_open [] (All-nil (λ b. b ≢ 10)))
+all_split (b ∷ bs) =
+    let s = all_split bs in
+    ⊎_elim
+    (λ e. ([] ∷ s.0, s.1, record {
+      whole = ap (λ c. c ∷ bs) e ∙ ap (λ xs. 10 ∷ xs) s.2.whole;
+      unbroken = All-cons Unbroken [] s.0 (All-nil (λ b. b ≢ 10)) s.2.unbroken;
+      open_end = s.2.open_end;
+    }))
+    (λ n. byte_before b bs s.0 s.1 n s.2)
+    (cases_eq b 10)

@@ -1,0 +1,4 @@
+// An input of lines, in whatever pieces it comes, and the answers to them.
+#![tactic(auto)]
+
+mod pending;
