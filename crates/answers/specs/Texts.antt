@@ -9,6 +9,7 @@ use Rattle.runs.specs.declared.calls.Reply.TheVariants.{Done, Listed, Settled}
 use Rattle.answers.specs.declared.faults.LineFault.{LineFault}
 use Rattle.answers.specs.Faults.{line_detail, line_number}
 
+-- what is told beside the number of a refusal, if anything
 abbrev pub detail_fields : Option ℕ → List (List ℕ)
 detail_fields None = []
 detail_fields (Some n) = decimal n ∷ []
