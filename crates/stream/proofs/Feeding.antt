@@ -1,16 +1,19 @@
 -- A session given one piece after the other.
-use Rattle.std.proofs.Common.{◌≡◌, ◌≢◌, ℕ, List, [], ◌∷◌, ◌++◌, All, Option, Result, refl, sym, ap, ◌∙◌, subst}
+use Rattle.std.proofs.Common.{◌≡◌, ◌≢◌, ℕ, suc, ◌+◌, ◌-◌, ◌≤◌, List, [], ◌∷◌, ◌++◌, length, take, drop, replicate, All, Some, None, Ok, Err, Option, Result, refl, sym, ap, ◌∙◌, subst, arith}
+use Rattle.std.specs.Io.KnownBytes.{Appends}
 use Rattle.std.proofs.KnownBytes.{Appends-nil, Appends-trans}
-use Rattle.std.proofs.lemmas.List.{append-nil, append_assoc}
+use Rattle.std.proofs.lemmas.List.{append-nil, append_assoc, drop-replicate, length_push, take_at}
 use Rattle.std.proofs.lemmas.List.Elements.{All-nil, All-push}
 use Rattle.runs.specs.declared.calls.Reply.{Reply}
 use Rattle.answers.specs.Texts.{answer_text}
 use Rattle.answers.specs.declared.faults.LineFault.{LineFault}
 use Rattle.desk.specs.Desks.{Standing}
-use Rattle.desk.specs.Responses.{Heard}
-use Rattle.stream.specs.Held.{Fed, Went, held}
-use Rattle.stream.specs.Inputs.{Splits, Unbroken}
+use Rattle.desk.specs.Responses.{Heard, Responded}
+use Rattle.stream.specs.Held.{Answered, Closed, Fed, View, Went, held}
+use Rattle.stream.specs.Inputs.{Splits, Unbroken, last_line}
+use Rattle.stream.specs.Sessions.{printed, unsent}
 use Rattle.stream.specs.Transcripts.{Spoken}
+use Rattle.stream.specs.declared.unsent.Unsent.{Unsent}
 use Rattle.stream.proofs.Cutting.{held_more, splits_ended, splits_join, splits_open}
 use Rattle.stream.proofs.Speaking.{spoken_join, spoken_line, spoken_none}
 
@@ -37,11 +40,83 @@ fed_byte s old new b other is = record { goes = λ line h was.
     spoken_none s,
     is ∙ ap (λ l. held (l ++ (b ∷ []))) was ∙ held_more line b) }
 
--- a newline ends it, and it is answered
-pub fed_newline : (s t : Standing) (old new : List ℕ) (answer : Result Reply LineFault) → Heard old s answer t → new ≡ [] → Fed s old (10 ∷ []) (answer_text answer ++ (10 ∷ [])) t new
-fed_newline s t old new answer heard is = record { goes = λ line h was.
-    (line ∷ [],
-    [],
-    splits_ended line h,
-    spoken_line line s answer t (subst (λ xs. Heard xs s answer t) was heard),
-    is) }
+-- ---- the bytes printed
+
+-- a text in a buffer of newlines, with the newline behind it
+pub newline_behind : (text out : List ℕ) (n : ℕ) → n ≡ length text → n ≤ 96 → out ≡ text ++ drop (length text) (replicate 97 10) → take (n + 1) out ≡ text ++ (10 ∷ [])
+newline_behind text out n is short full =
+    let rest : List ℕ = replicate (96 - length text) 10 in
+    let one : 97 - length text ≡ suc (96 - length text) = omega arith in
+    let behind : drop (length text) (replicate 97 10) ≡ 10 ∷ rest = drop-replicate (length text) 97 10 ∙ ap (λ k. replicate k 10) one in
+    let size : length (text ++ (10 ∷ [])) ≡ n + 1 = omega (arith, length_push text 10) in
+    ap (take (n + 1)) (full ∙ ap (λ xs. text ++ xs) behind ∙ sym (append_assoc text (10 ∷ []) rest))
+    ∙ take_at (text ++ (10 ∷ [])) rest (n + 1) size
+
+abbrev told : Result ℕ LineFault → ℕ
+told (Ok n) = n
+told (Err f) = 0
+
+-- a response to the line that has ended, printed with a newline
+pub answered_line : (a b : View) (line out shown : List ℕ) (r : Result ℕ LineFault) (n : ℕ)
+    → line ≡ a.held → Responded line a.standing (replicate 97 10) r out b.standing → r ≡ Ok n → n ≤ 96
+    → shown ≡ take (n + 1) out → Appends a.printed b.printed shown → b.held ≡ []
+    → Answered a b
+answered_line a b line out shown r n is response ok short is_shown appended cleared =
+    let x = response.long (omega arith) in
+    let answer = x.0 in
+    let y = x.2.long (omega arith) in
+    let same : n ≡ length (answer_text answer) = ap told (sym ok ∙ y.0) in
+    record {
+      out = answer_text answer ++ (10 ∷ []);
+      written = subst (Appends a.printed b.printed) (is_shown ∙ newline_behind (answer_text answer) out n same short y.1) appended;
+      spoken = λ whole was. spoken_line whole a.standing answer b.standing (subst (λ xs. Heard xs a.standing answer b.standing) (is ∙ was) x.1);
+      held = cleared;
+    }
+
+-- a newline ends a line
+pub went_newline : (a b : View) → Answered a b → Went a (10 ∷ []) b
+went_newline a b x = record {
+  out = x.out;
+  written = x.written;
+  fed = record { goes = λ line h was. (line ∷ [], [], splits_ended line h, x.spoken line was, x.held) };
+}
+
+-- the input ends behind a newline
+pub closed_none : (a : View) → a.held ≡ [] → Closed a a
+closed_none a none = record {
+  out = [];
+  written = Appends-nil a.printed;
+  last = λ line h was. subst (λ ls. Spoken a.standing ls [] a.standing) (sym (ap last_line (nothing_held line (sym was ∙ none)))) (spoken_none a.standing);
+}
+  where
+    nothing_held : (line : List ℕ) → held line ≡ [] → line ≡ []
+    nothing_held [] e = refl
+    nothing_held (b ∷ bs) e = absurd (omega (arith, ap length e))
+
+-- or within a line
+pub closed_line : (a b : View) → (a.held ≡ [] → ⊥) → Answered a b → Closed a b
+closed_line a b some x = record { out = x.out; written = x.written; last = λ line h was. one line was (x.spoken line was) }
+  where
+    one : (line : List ℕ) → a.held ≡ held line → Spoken a.standing (line ∷ []) x.out b.standing → Spoken a.standing (last_line line) x.out b.standing
+    one [] was h = absurd (some was)
+    one (c ∷ cs) was h = h
+
+-- nothing is on its way to the writer
+pub printed_none : (contents : Option (List ℕ)) (u : Unsent) → unsent u ≡ [] → printed contents u ≡ contents
+printed_none None u h = refl
+printed_none (Some xs) u h = ap (λ ys. Some (xs ++ ys)) h ∙ ap Some (append-nil xs)
+
+-- a byte that is no newline
+pub went_byte : (printed : Option (List ℕ)) (s : Standing) (old new : List ℕ) (b : ℕ) → b ≢ 10 → new ≡ held (old ++ (b ∷ []))
+    → Went (record { printed = printed; standing = s; held = old }) (b ∷ []) (record { printed = printed; standing = s; held = new })
+went_byte printed s old new b other is = record { out = []; written = Appends-nil printed; fed = fed_byte s old new b other is }
+
+pub went_none : (a : View) → Went a [] a
+went_none a = record { out = []; written = Appends-nil a.printed; fed = fed_none a.standing a.held }
+
+pub went_join : (a b c : View) (piece more : List ℕ) → Went a piece b → Went b more c → Went a (piece ++ more) c
+went_join a b c piece more x y = record {
+  out = x.out ++ y.out;
+  written = Appends-trans a.printed b.printed c.printed x.out y.out x.written y.written;
+  fed = fed_join a.standing b.standing c.standing a.held b.held c.held piece more x.out y.out x.fed y.fed;
+}

@@ -1,8 +1,9 @@
 -- What a session holds between two pieces of its input.
-use Rattle.std.specs.Prelude.{◌≡◌, ℕ, List, ◌++◌, take, Option}
-use Rattle.std.specs.Io.KnownBytes.{Appends}
-use Rattle.desk.specs.Desks.{Standing}
-use Rattle.stream.specs.Inputs.{Splits, Unbroken}
+use Rattle.std.specs.Prelude.{◌≡◌, ℕ, List, [], ◌∷◌, ◌++◌, take, Option}
+use Rattle.std.specs.Io.KnownBytes.{Appends, Keeps}
+use Rattle.book.specs.Ledgers.{Ledger}
+use Rattle.desk.specs.Desks.{Standing, waiting}
+use Rattle.stream.specs.Inputs.{Splits, Unbroken, last_line}
 use Rattle.stream.specs.Transcripts.{Spoken}
 
 -- of a line that has not ended, its first 201 bytes: of any that is longer the answer is the same
@@ -15,8 +16,40 @@ pub record Fed (s : Standing) (old piece out : List ℕ) (t : Standing) (new : L
   pub goes : (line : List ℕ) → Unbroken line → old ≡ held line →
       (lines : List (List ℕ)) × (rest : List ℕ) × Splits (line ++ piece) lines rest × Spoken s lines out t × (new ≡ held rest)
 
--- the same, where the writer holds what was printed after what it held before
-pub record Went (before after : Option (List ℕ)) (s : Standing) (old piece : List ℕ) (t : Standing) (new : List ℕ) : Type 0 where
+-- ---- a session with its book and its writer
+
+-- what was printed so far, where that is known; what stands; and what is held of the line that has not ended
+pub record View : Type 0 where
+  pub printed : Option (List ℕ)
+  pub standing : Standing
+  pub held : List ℕ
+
+-- before any input, with a writer that has these bytes and a book of this meaning
+abbrev pub at_first : Option (List ℕ) → Ledger → View
+at_first contents m = record { printed = contents; standing = waiting m; held = [] }
+
+-- the line that has ended is answered, and nothing is held of the next
+pub record Answered (a b : View) : Type 0 where
   pub out : List ℕ
-  pub written : Appends before after out
-  pub fed : Fed s old piece out t new
+  pub written : Appends a.printed b.printed out
+  pub spoken : (line : List ℕ) → a.held ≡ held line → Spoken a.standing (line ∷ []) out b.standing
+  pub held : b.held ≡ []
+
+-- given a piece, it answers the lines that ended in it
+pub record Went (a : View) (piece : List ℕ) (b : View) : Type 0 where
+  pub out : List ℕ
+  pub written : Appends a.printed b.printed out
+  pub fed : Fed a.standing a.held piece out b.standing b.held
+
+-- at the end of the input the line that has not ended, if there is one, is answered too
+pub record Closed (a b : View) : Type 0 where
+  pub out : List ℕ
+  pub written : Appends a.printed b.printed out
+  pub last : (line : List ℕ) → Unbroken line → a.held ≡ held line → Spoken a.standing (last_line line) out b.standing
+
+-- flushed, the writer has all that was printed, and nothing else changes
+pub record Flushed (a : View) (contents : Option (List ℕ)) (b : View) : Type 0 where
+  pub sent : Keeps a.printed contents
+  pub printed : Keeps contents b.printed
+  pub standing : b.standing ≡ a.standing
+  pub held : b.held ≡ a.held

@@ -1,3 +1,5 @@
 pub mod Inputs
 pub mod Transcripts
 pub mod Held
+pub mod Sessions
+pub mod Served

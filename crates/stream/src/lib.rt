@@ -2,3 +2,6 @@
 #![tactic(auto)]
 
 mod pending;
+pub mod serving;
+pub mod sessions;
+mod unsent;

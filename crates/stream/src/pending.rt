@@ -1,11 +1,11 @@
 // The line that has not ended yet.
-ghost use Rattle.std.specs.Prelude.{◌≡◌, ◌≤◌, [], ◌∷◌, ◌++◌, take};
+ghost use Rattle.std.specs.Prelude.{◌≡◌, ◌≤◌, [], ◌∷◌, ◌++◌};
 ghost use Rattle.stream.specs.Held.{held};
 
 // One byte more than the longest line of a call.
 const KEPT: usize = 201;
 
-// The first bytes of the line: enough to know a longer one by.
+// The first bytes of the line: of a longer one the answer is the same.
 #[derive(Drop)]
 pub(crate) struct Pending {
     bytes: [u8; KEPT],
@@ -14,8 +14,10 @@ pub(crate) struct Pending {
 }
 
 impl Pending {
+    ghost use Rattle.stream.specs.Sessions.{kept};
+
     pub(crate) fn new() -> Pending
-        ensures { take result.len result.bytes ≡ [] }
+        ensures { kept result ≡ [] }
     {
         Pending {
             bytes: [0; KEPT],
@@ -24,14 +26,14 @@ impl Pending {
     }
 
     pub(crate) fn line(&self) -> &[u8]
-        ensures { result.now ≡ take self.now.len self.now.bytes }
+        ensures { result.now ≡ kept self.now }
     {
         &self.bytes[..self.len]
     }
 
     // A byte more of the line.
     pub(crate) fn push(&mut self, byte: u8)
-        ensures { take self.new.len self.new.bytes ≡ held (take self.old.len self.old.bytes ++ (byte ∷ [])) }
+        ensures { kept self.new ≡ held (kept self.old ++ (byte ∷ [])) }
     {
         if self.len < KEPT {
             self.bytes[self.len] = byte;
@@ -41,7 +43,7 @@ impl Pending {
 
     // The line has ended.
     pub(crate) fn clear(&mut self)
-        ensures { take self.new.len self.new.bytes ≡ [] }
+        ensures { kept self.new ≡ [] }
     {
         self.len = 0;
     }

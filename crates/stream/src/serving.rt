@@ -1,0 +1,54 @@
+// A whole input, from the first line to the last.
+ghost use Rattle.std.specs.Prelude.{◌≡◌, ◌≤◌, take, IfOk, OnOk};
+ghost use Rattle.std.specs.Io.KnownBytes.{Consumes, IsAtEnd};
+ghost use Rattle.stream.specs.Served.{Served};
+ghost use Rattle.stream.specs.Transcripts.{OneTranscript};
+ghost use Rattle.stream.specs.Inputs.{AllSplit, SplitLines};
+
+use crate::sessions::Session;
+use book::books::Reusable;
+use std::io;
+use std::io::{ErrorKind, Read, Write};
+
+const PIECE: usize = 8192;
+
+// The next piece of the input; nothing at its end. A read that a signal interrupts is tried again.
+fn next_piece<R: Read>(input: &mut R, piece: &mut [u8; PIECE]) -> io::Result<usize>
+    ensures within { IfOk result (λ n. n ≤ 8192) }
+    ensures read { IfOk result (λ n. Consumes (R.remaining input.old) (R.remaining input.new) (take n piece.new)) }
+    ensures end { IfOk result (λ n. n ≡ 0 → IsAtEnd (R.remaining input.new)) }
+{
+    for _ in 0..u64::MAX {
+        match input.read(piece) {
+            Ok(n) => return Ok(n),
+            Err(e) => {
+                if e.kind() != ErrorKind::Interrupted {
+                    return Err(e);
+                }
+            }
+        }
+    }
+    Err(ErrorKind::Interrupted.into())
+}
+
+// Answers the lines of an input until it ends. Answers go out before the next piece is read, so that whoever waits for one has it;
+// a write that fails ends it.
+pub fn serve<B: Reusable, R: Read, W: Write>(
+    book: &mut B,
+    input: &mut R,
+    output: &mut W,
+) -> io::Result<()>
+    ensures served { OnOk result (Served (R.remaining input.old) (W.contents output.old) (W.contents output.new) (B.Book.meaning book.old) (B.Book.meaning book.new)) }
+{
+    let mut session = Session::new();
+    let mut piece = [0; PIECE];
+    for _ in 0..u64::MAX {
+        let n = next_piece(input, &mut piece)?;
+        if n == 0 {
+            return session.finish(book, output);
+        }
+        session.feed(book, output, &piece[..n])?;
+        session.flush(output)?;
+    }
+    Err(ErrorKind::Other.into())
+}
