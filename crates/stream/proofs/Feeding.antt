@@ -1,16 +1,15 @@
 -- A session given one piece after the other.
-use Rattle.std.proofs.Common.{◌≡◌, ◌≢◌, ℕ, suc, ◌+◌, ◌-◌, ◌≤◌, List, [], ◌∷◌, ◌++◌, length, take, drop, replicate, All, Some, None, Ok, Err, Option, Result, refl, sym, ap, ◌∙◌, subst, arith}
+use Rattle.std.proofs.Common.{◌≡◌, ◌≢◌, ℕ, suc, ◌+◌, ◌-◌, ◌≤◌, List, [], ◌∷◌, ◌++◌, length, take, drop, replicate, Some, None, Ok, Err, Option, Result, refl, sym, ap, ◌∙◌, subst, arith}
 use Rattle.std.specs.Io.KnownBytes.{Appends}
 use Rattle.std.proofs.KnownBytes.{Appends-nil, Appends-trans}
 use Rattle.std.proofs.lemmas.List.{append-nil, append_assoc, drop-replicate, length_push, take_at}
-use Rattle.std.proofs.lemmas.List.Elements.{All-nil, All-push}
-use Rattle.runs.specs.declared.calls.Reply.{Reply}
+use Rattle.std.proofs.lemmas.List.Elements.{All-push}
 use Rattle.answers.specs.Texts.{answer_text}
 use Rattle.answers.specs.declared.faults.LineFault.{LineFault}
 use Rattle.desk.specs.Desks.{Standing}
 use Rattle.desk.specs.Responses.{Heard, Responded}
 use Rattle.stream.specs.Held.{Answered, Closed, Fed, View, Went, held}
-use Rattle.stream.specs.Inputs.{Splits, Unbroken, last_line}
+use Rattle.stream.specs.Inputs.{Splits, last_line}
 use Rattle.stream.specs.Sessions.{printed, unsent}
 use Rattle.stream.specs.Transcripts.{Spoken}
 use Rattle.stream.specs.declared.unsent.Unsent.{Unsent}

@@ -1,3 +1,4 @@
 pub mod Cutting
 pub mod Speaking
 pub mod Feeding
+pub mod Whole

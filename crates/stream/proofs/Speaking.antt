@@ -1,10 +1,10 @@
 -- What is printed of lines, one after the other.
-use Rattle.std.proofs.Common.{◌≡◌, ℕ, ◌+◌, ◌<◌, ◌≤◌, List, [], ◌∷◌, ◌++◌, length, fold, Ok, Err, Result, refl, sym, ap, ◌∙◌, subst, ⊎_elim, arith}
+use Rattle.std.proofs.Common.{◌≡◌, ℕ, ◌<◌, List, [], ◌∷◌, ◌++◌, length, Ok, Err, Result, refl, sym, ap, ◌∙◌, subst, ⊎_elim, arith}
 use Rattle.std.specs.List.{AllZip}
 use Rattle.std.proofs.lemmas.Bool.{cases_lt}
 use Rattle.std.proofs.lemmas.List.{append_assoc, length-take-le}
 use Rattle.runs.specs.declared.calls.Reply.{Reply}
-use Rattle.lines.specs.Spelled.{BriefCall, Parsed, Place, written}
+use Rattle.lines.specs.Spelled.{Parsed}
 use Rattle.lines.specs.declared.calls.LineCall.{LineCall}
 use Rattle.lines.specs.declared.faults.NotRead.{NotRead}
 use Rattle.lines.proofs.Writings.{one_reading}

@@ -13,7 +13,7 @@ pub record Finished (a : View) (contents : Option (List ℕ)) (book : Ledger) : 
   pub stands : Standing
   pub written : Appends a.printed contents out
   pub last : (line : List ℕ) → Unbroken line → a.held ≡ held line → Spoken a.standing (last_line line) out stands
-  pub book : book ≡ stands.book
+  pub same : book ≡ stands.book
 
 -- an input was read to its end, if it is known what there was to read, and the transcript of its lines was written, if it is known
 -- what the writer had; the book that was lent then has what the calls left

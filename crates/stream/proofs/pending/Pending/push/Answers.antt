@@ -1,4 +1,4 @@
-use Rattle.std.proofs.Common.{◌≡◌, length, rules, arith}
+use Rattle.std.proofs.Common.{rules, arith}
 use Rattle.stream.proofs.Cutting.{held_full, held_written}
 use Rattle.stream.proofs.pending.Pending.push.Goals as goal
 

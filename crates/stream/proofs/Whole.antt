@@ -1,0 +1,70 @@
+-- A whole input, piece by piece.
+use Rattle.std.proofs.Common.{◌≡◌, ◌≢◌, ℕ, List, [], ◌++◌, Option, refl, sym, ap, ◌∙◌, subst}
+use Rattle.std.specs.Io.KnownBytes.{Consumes, IsAtEnd}
+use Rattle.std.proofs.KnownBytes.{Appends-kept, Appends-trans, Consumes-nil, Consumes-trans, Consumes-whole}
+use Rattle.std.proofs.lemmas.List.{append-nil}
+use Rattle.std.proofs.lemmas.List.Elements.{All-nil}
+use Rattle.book.specs.Ledgers.{Ledger}
+use Rattle.desk.specs.Desks.{Standing, waiting}
+use Rattle.stream.specs.Held.{Closed, Fed, Flushed, View, Went, at_first}
+use Rattle.stream.specs.Inputs.{last_line}
+use Rattle.stream.specs.Served.{Finished, Served}
+use Rattle.stream.specs.Transcripts.{Spoken}
+use Rattle.stream.proofs.Cutting.{lines_split}
+use Rattle.stream.proofs.Feeding.{went_join, went_none}
+use Rattle.stream.proofs.Speaking.{spoken_join}
+
+-- so much of the input was read, and this is what it led to
+pub record Reached (before after : Option (List ℕ)) (a b : View) : Type 0 where
+  pub input : List ℕ
+  pub read : Consumes before after input
+  pub went : Went a input b
+
+pub reached_none : (remaining : Option (List ℕ)) (a : View) → Reached remaining remaining a a
+reached_none remaining a = record { input = []; read = Consumes-nil remaining; went = went_none a }
+
+-- a session that is flushed has printed the same
+went_flushed : (a b c : View) (contents : Option (List ℕ)) (piece : List ℕ) → Went a piece b → Flushed b contents c → Went a piece c
+went_flushed a b c contents piece w f = record {
+  out = w.out;
+  written = Appends-kept a.printed contents c.printed w.out (Appends-kept a.printed b.printed contents w.out w.written f.sent) f.printed;
+  fed = subst (λ (s : Standing). Fed a.standing a.held piece w.out s c.held) (sym f.standing)
+      (subst (λ hs. Fed a.standing a.held piece w.out b.standing hs) (sym f.held) w.fed);
+}
+
+-- one piece more
+pub reached_more : (x y z : Option (List ℕ)) (a b c d : View) (contents : Option (List ℕ)) (piece : List ℕ)
+    → Reached x y a b → Consumes y z piece → Went b piece c → Flushed c contents d → Reached x z a d
+reached_more x y z a b c d contents piece r read went flushed = record {
+  input = r.input ++ piece;
+  read = Consumes-trans x y z r.input piece r.read read;
+  went = went_join a b d r.input piece r.went (went_flushed b c d contents piece went flushed);
+}
+
+-- the end of the input
+pub served_all : (x y z contents after : Option (List ℕ)) (m k : Ledger) (b : View) (none : List ℕ)
+    → Reached x y (at_first contents m) b → Consumes y z none → none ≡ [] → IsAtEnd z → Finished b after k → Served x contents after m k
+served_all x y z contents after m k b none r read is end f =
+    let goes = r.went.fed.goes [] (All-nil (λ b. b ≢ 10)) refl in
+    let lines = goes.0 in
+    let rest = goes.1 in
+    record {
+      input = r.input;
+      out = r.went.out ++ f.out;
+      stands = f.stands;
+      whole = Consumes-whole x z (r.input ++ none) (λ xs. r.input ≡ xs) (Consumes-trans x y z r.input none r.read read) end (sym (append-nil r.input) ∙ ap (λ ys. r.input ++ ys) (sym is));
+      written = Appends-trans contents b.printed after r.went.out f.out r.went.written f.written;
+      spoken = subst (λ ls. Spoken (waiting m) ls (r.went.out ++ f.out) f.stands) (sym (lines_split r.input lines rest goes.2))
+          (spoken_join (waiting m) b.standing f.stands lines (last_line rest) r.went.out f.out goes.3 (f.last rest goes.2.open_end goes.4));
+      book = f.same;
+    }
+
+-- closed and flushed, a session has finished
+pub finished : (a b c : View) (contents : Option (List ℕ)) (m : Ledger) → Closed a b → Flushed b contents c → m ≡ b.standing.book → Finished a contents m
+finished a b c contents m x f book = record {
+  out = x.out;
+  stands = b.standing;
+  written = Appends-kept a.printed b.printed contents x.out x.written f.sent;
+  last = x.last;
+  same = book;
+}
