@@ -1,5 +1,6 @@
 pub mod Slots
 pub mod Admitted
+pub mod Laddered
 mod Demands
 pub mod Looked
 mod RowWalk

@@ -3,5 +3,6 @@ use Rattle.house.specs.Calls.{State}
 use Rattle.house.specs.Rolls.{roll}
 use Rattle.house.specs.declared.houses.House.{House}
 
-abbrev pub state : {L : Type 0} → House L → State
+-- `bound` is what it gives that L is a ladder set, here and wherever a house is named
+abbrev pub state : {L : Type 0} {bound : _} → House L bound → State
 state h = record { phase = h.phase; roll = roll h.listed.count h.listed.slots }

@@ -1,5 +1,5 @@
 -- The listed series by their numbers.
-use Rattle.std.specs.Prelude.{ℕ, ◌+◌, Bool, cond, ◌&&◌, List, ℤ, pos, ◌==◌, int_le, int_lt, slice_index_or}
+use Rattle.std.specs.Prelude.{ℕ, ◌+◌, ◌<◌, Bool, cond, ◌&&◌, List, ℤ, pos, ◌==◌, int_le, int_lt, slice_index_or}
 use Rattle.house.specs.Series.{blank, new_series}
 use Rattle.house.specs.declared.series.Series.{Series}
 use Rattle.house.specs.declared.terms.Terms.{Terms}
@@ -12,6 +12,10 @@ pub record Roll : Type 0 where
 -- the first `count` places of a list
 abbrev pub roll : ℕ → List Series → Roll
 roll count slots = record { count = count; series = λ n. slice_index_or slots n blank }
+
+-- every series has one of so many ladders, numbered from 0; the blank one has ladder 0
+abbrev pub OnLadders : ℕ → Roll → Type 0
+OnLadders ladders r = (n : ℕ) → (r.series n).terms.ladder < ladders
 
 abbrev pub none_listed : Roll
 none_listed = record { count = 0; series = λ n. blank }

@@ -234,7 +234,7 @@ laws_of_new a b n ed x y d j k new other_new l = record {
     comparable m = record { alike = m; day = d; capacity = j; other_capacity = k; new = new; other_new = other_new }
 
 -- a run on a house and a book that were just made is a new run
-pub begun : {L : Type 0} (size : L → ℕ) (lawful : L → ℕ → ℤ → Bool) (h : House L) (m : Ledger) (set : L) (d : Day) (k : ℕ) (calls : List Call) → state h ≡ new_state → h.set ≡ set → m ≡ fresh d k → run_of size lawful h m calls ≡ new_run size lawful set d k calls
+pub begun : {L : Type 0} {bound : _} (size : L → ℕ) (lawful : L → ℕ → ℤ → Bool) (h : House L bound) (m : Ledger) (set : L) (d : Day) (k : ℕ) (calls : List Call) → state h ≡ new_state → h.set ≡ set → m ≡ fresh d k → run_of size lawful h m calls ≡ new_run size lawful set d k calls
 begun size lawful h m set d k calls new same empty-book = λ i. record { ladders = size (same i); lawful = lawful (same i); start = record { state = new i; book = empty-book i }; calls = calls }
 
 pub laws_begun : (a b c e : Run) (n m : ℤ) (ed : Edition) (x y : Result Settlement HouseFault) (d : Day) (j k : ℕ) → a ≡ c → b ≡ e → n ≡ m → c.start ≡ new_world d j → e.start ≡ new_world d k → Laws (Comparable a b n ed) a b n ed x y → Laws (Alike c e m ed) c e m ed x y

@@ -27,11 +27,11 @@ pub record Run : Type 0 where
   pub calls : List Call
 
 -- on a house over a ladder set with this count and these lawful prices, and a book of this meaning
-abbrev pub run_of : {L : Type 0} → (L → ℕ) → (L → ℕ → ℤ → Bool) → House L → Ledger → List Call → Run
+abbrev pub run_of : {L : Type 0} {bound : _} → (L → ℕ) → (L → ℕ → ℤ → Bool) → House L bound → Ledger → List Call → Run
 run_of size lawful h m calls = record { ladders = size h.set; lawful = lawful h.set; start = world h m; calls = calls }
 
 -- as it is handed to a call
-abbrev pub run_in : {L B : Type 0} → (L → ℕ) → (L → ℕ → ℤ → Bool) → (B → Ledger) → runs.Run L B → Run
+abbrev pub run_in : {L B : Type 0} {bound : _} → (L → ℕ) → (L → ℕ → ℤ → Bool) → (B → Ledger) → runs.Run L B bound → Run
 run_in size lawful meaning r = run_of size lawful r.house.now (meaning r.book.now) r.calls.now
 
 -- what stands in the end, and the calls that were not refused

@@ -18,7 +18,7 @@ pub record World : Type 0 where
   pub state : State
   pub book : Ledger
 
-abbrev pub world : {L : Type 0} → House L → Ledger → World
+abbrev pub world : {L : Type 0} {bound : _} → House L bound → Ledger → World
 world h m = record { state = state h; book = m }
 
 -- a new house and a new book

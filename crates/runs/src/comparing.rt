@@ -16,7 +16,7 @@ use rows::places::Edition;
 use tape::tapes::Tape;
 
 // A run: a house, a book, and the calls to be made on them.
-pub struct Run<'a, L, B> {
+pub struct Run<'a, L: LadderSet, B> {
     pub house: &'a mut House<L>,
     pub book: &'a mut B,
     pub calls: &'a [Call],
