@@ -6,4 +6,5 @@ pub mod Looked
 mod RowWalk
 pub mod Paths
 pub mod Explained
+pub mod OnPath
 mod OnTick

@@ -9,5 +9,6 @@ pub mod Answers
 pub mod Questions
 pub mod Reach
 pub mod Meaning
+pub mod ByPath
 pub mod Worked
 pub mod Asked

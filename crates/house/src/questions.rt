@@ -1,6 +1,7 @@
 // The question for a price.
 ghost use Rattle.std.specs.Prelude.{◌≡◌, unsigned_abs};
 ghost use Rattle.house.specs.Answers.{settled_at};
+ghost use Rattle.house.specs.ByPath.{ByPath};
 ghost use Rattle.house.specs.Houses.{state};
 ghost use Rattle.house.specs.Meaning.{Explained};
 ghost use Rattle.house.specs.Questions.{is_open, settle_answer};
@@ -48,8 +49,8 @@ impl<L: LadderSet> House<L> {
         question.answer()
     }
 
-    // The answer to the question, or the refusal that comes before it. Apart from `settle`, whose clause `meaning` rests on this one,
-    // so that a fault in the answer is told here. Series and edition stay two parameters, as they are two words of a line.
+    // The answer to the question, or the refusal that comes before it. Apart from `settle`, whose clauses `path` and `meaning`
+    // rest on this one, so that a fault in the answer is told here. Series and edition stay two parameters, as they are two words of a line.
     fn told<B: Book>(
         &self,
         book: &B,
@@ -74,6 +75,7 @@ impl<L: LadderSet> House<L> {
         edition: Edition,
     ) -> Result<Settlement, HouseFault>
         ensures answer { result ≡ settle_answer (L.LadderSet.lawful self.now.set) edition series (state self.now) (B.Book.meaning book.now) }
+        ensures path { ByPath (L.LadderSet.lawful self.now.set) edition (state self.now) (B.Book.meaning book.now) series result }
         ensures meaning { Explained (L.LadderSet.lawful self.now.set) edition (state self.now) (B.Book.meaning book.now) (unsigned_abs series) result }
     {
         self.told(book, series, edition)
