@@ -1,7 +1,7 @@
 -- Two runs compared, by the calls taken in each.
 use Rattle.std.proofs.Common.{◌≡◌, ℕ, ◌+◌, Bool, true, ◌||◌, List, [], ◌∷◌, map, length, ℤ, pos, nat_abs, Ok, Err, fold, Result, sym, refl, ap, ◌∙◌, subst, add-zero, arith}
 use Rattle.std.specs.List.{AllZip, AllByRecursion}
-use Rattle.std.proofs.lemmas.Bool.{and_parts, cond-true, eq-eqb, or_right}
+use Rattle.std.proofs.lemmas.Bool.{and_parts, eq-eqb, or_right}
 use Rattle.std.proofs.lemmas.List.Elements.{same_from_all_zip}
 use Rattle.book.specs.Bounds.{bounded}
 use Rattle.book.specs.Entries.{allowed}
@@ -17,7 +17,7 @@ use Rattle.book.proofs.Ranges.{allowed_kind}
 use Rattle.ladders.specs.Rounding.{Near}
 use Rattle.rows.specs.declared.places.Edition.{Edition}
 use Rattle.house.specs.Answers.{Answer, references, settled, settled_at, station_of}
-use Rattle.house.specs.Calls.{demand, new_state}
+use Rattle.house.specs.Calls.{new_state}
 use Rattle.house.specs.Found.{Station}
 use Rattle.house.specs.Houses.{state}
 use Rattle.house.specs.Questions.{as_told, is_open}
@@ -25,11 +25,12 @@ use Rattle.house.specs.Rolls.{is_listed}
 use Rattle.house.specs.Series.{lawful_series}
 use Rattle.house.specs.declared.answers.Settlement.{Settlement}
 use Rattle.house.specs.declared.faults.HouseFault.{HouseFault}
-use Rattle.house.specs.declared.faults.HouseFault.TheVariants.{NoPrice, NoSuchSeries, WrongPhase}
+use Rattle.house.specs.declared.faults.HouseFault.TheVariants.{NoPrice}
 use Rattle.house.specs.declared.houses.House.{House}
+use Rattle.house.proofs.OnPath.{in_time}
 use Rattle.runs.specs.Kept.{on_path}
 use Rattle.runs.specs.Laws.{Alike, Asked, Comparable, Laws, MoreEvidence, RaisedEvidence, Run, SameEvidence, answer_in, end, new_run, path_of, run_of, taken_in}
-use Rattle.runs.specs.Readings.{entries, stands}
+use Rattle.runs.specs.Readings.{entries, listed, phase_after, stands}
 use Rattle.runs.specs.Runs.{World, after_run, new_world, taken}
 use Rattle.runs.specs.Stations.{NoLater, NotLower}
 use Rattle.runs.specs.declared.calls.Call.{Call}
@@ -39,7 +40,7 @@ use Rattle.runs.proofs.KeptFigures.{same_figures}
 use Rattle.runs.proofs.MoreAnswers.{StationMore, more_answers}
 use Rattle.runs.proofs.RaisedAnswers.{StationRaised, raised_answers}
 use Rattle.runs.proofs.RaisedFigures.{raised_figures}
-use Rattle.runs.proofs.ToldRuns.{told_allowed, told_book, told_lawful, told_series}
+use Rattle.runs.proofs.ToldRuns.{told_allowed, told_book, told_from_new, told_lawful, told_series}
 
 -- ---- stations by the calls taken
 
@@ -153,13 +154,18 @@ module _ (d : Day) (j k ladders others : ℕ) (P : ℕ → ℤ → Bool) (calls 
 
 -- ---- the laws, of two runs that can be compared
 
+-- what may be asked in the end is told by the calls taken
+asked_in_the_end : (d : Day) (k : ℕ) (r : Run) (n : ℤ) (ed : Edition) → r.start ≡ new_world d k → (is_listed (end r).state.roll.count n ≡ is_listed (length (listed (taken_in r))) n) × (is_open (end r).state.phase ed ≡ is_open (phase_after (taken_in r)) ed)
+asked_in_the_end d k r n ed new =
+    let t = told_from_new d k r.ladders r.lawful r.calls r.start (end r) refl new in
+    (ap (λ c. is_listed c n) t.roll.count, ap (λ p. is_open p ed) t.phase)
+
 -- the answer to a question in time is told by the calls taken
 asked_answer : (d : Day) (k : ℕ) (r : Run) (n : ℤ) (ed : Edition) → Asked r n ed → r.start ≡ new_world d k → answer_in r n ed ≡ as_told (told r.lawful ed d (taken_in r) (nat_abs n))
 asked_answer d j r n ed q new =
     let k = nat_abs n in
-    let found = as_told (settled_at r.lawful ed (end r).state (end r).book k) in
-    cond-true (is_open (end r).state.phase ed) (demand (is_listed (end r).state.roll.count n) NoSuchSeries found) (Err WrongPhase) q.opened
-    ∙ cond-true (is_listed (end r).state.roll.count n) found (Err NoSuchSeries) q.listed
+    let same = asked_in_the_end d j r n ed new in
+    in_time r.lawful ed (end r).state (end r).book n (record { opened = same.1 ∙ q.opened; listed = same.0 ∙ q.listed })
     ∙ ap as_told (subst (λ (s : World). settled_at r.lawful ed (after_run r.ladders r.lawful r.calls s).state (after_run r.ladders r.lawful r.calls s).book k ≡ told r.lawful ed d (taken r.ladders r.lawful r.calls s) k) (sym new) (answer_told d j r.ladders r.lawful r.calls ed k))
 
 -- what holds of the calls taken from new houses on empty books over the same prices holds of runs that can be compared

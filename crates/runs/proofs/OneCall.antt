@@ -15,20 +15,23 @@ use Rattle.book.proofs.Folds.{every_push, recorded_push}
 use Rattle.book.proofs.Taking.{admitted}
 use Rattle.rows.specs.Families.{family_of}
 use Rattle.rows.specs.declared.families.Family.{Family}
-use Rattle.house.specs.Calls.{State, by_book, demand, entry_after, entry_answer, entry_passed, is_listing, listed_terms, may_rule, moved, ruling_after, ruling_answer, ruling_of, rung, then, theory_after, theory_answer, with_ruling, with_theory}
+use Rattle.house.specs.Calls.{State, by_book, demand, entry_after, entry_answer, entry_passed, is_listing, listed_terms, may_rule, moved, ruling_after, ruling_answer, ruling_of, rung, then, theory_after, theory_answer, told, with_ruling, with_theory}
 use Rattle.house.specs.Rolls.{Roll, changed, is_listed, placed, with_listed}
 use Rattle.house.specs.Series.{blank, lawful_ruling, lawful_series, new_series}
 use Rattle.house.specs.Terms.{checked, checked_for, is_ladder, lawful_terms, terms_of}
 use Rattle.house.specs.declared.faults.HouseFault.{HouseFault}
 use Rattle.house.specs.declared.faults.HouseFault.TheVariants.{NoSuchSeries, SeriesFull, SuppliedBeyondLimits, TermsNotLawful, WrongPhase}
+use Rattle.house.specs.declared.phases.Bell.{Bell}
+use Rattle.house.specs.declared.phases.Bell.TheVariants as bells
 use Rattle.house.specs.declared.phases.Phase.{Phase}
+use Rattle.house.specs.declared.phases.Phase.TheVariants as phases
 use Rattle.house.specs.declared.series.Ruling.{Ruling}
 use Rattle.house.specs.declared.series.Series.{Series}
 use Rattle.house.specs.declared.terms.Listing.{Listing}
 use Rattle.house.specs.declared.terms.Terms.{Terms}
 use Rattle.house.proofs.Admitted.{Admitted, listed_lawful}
 use Rattle.house.proofs.Slots.{lawful_ruled, lawful_theory}
-use Rattle.runs.specs.Readings.{entries, entries_in, last_ruling, last_theory, listed, ruling_left, stands, terms_by, terms_in, theory_left}
+use Rattle.runs.specs.Readings.{entries, entries_in, last_ruling, last_theory, listed, phase_after, phase_by, phase_left, ruling_left, stands, terms_by, terms_in, theory_left}
 use Rattle.runs.specs.Runs.{World, is_taken, new_world, next}
 use Rattle.runs.specs.Told.{BookTold, RollTold, Told}
 use Rattle.runs.specs.declared.calls.Call.{Call}
@@ -37,6 +40,7 @@ use Rattle.runs.proofs.Refusals.{found, listed_ok, told_ok}
 
 pub told_new : (d : Day) (k : ℕ) → Told d k [] (new_world d k)
 told_new d k = record {
+  phase = refl;
   roll = record { series = λ n. refl; count = refl; lawful = λ n. refl; unused = λ n h. refl };
   book = record { records = refl; lawful = refl; room = omega arith };
 }
@@ -238,6 +242,27 @@ told_ruling xs z value first s ok t =
 
 -- ---- bells
 
+-- a call that rings no bell leaves the phase
+phase_kept : (xs : List Call) (c : Call) (p : Phase) → ((q : Phase) → phase_left q c ≡ q) → p ≡ phase_after xs → p ≡ phase_after (xs ++ (c ∷ []))
+phase_kept xs c p none is = is ∙ sym (fold_push phase_left phases.Listing xs c ∙ none (phase_after xs))
+
+-- and so it does where it changes the state otherwise
+phase_stays : {A : Type 0} (xs : List Call) (c : Call) (r : Result A HouseFault) (move : A → State) (s : State) → ((p : Phase) → phase_left p c ≡ p) → ((a : A) → (move a).phase ≡ s.phase) → s.phase ≡ phase_after xs → (moved r move s).phase ≡ phase_after (xs ++ (c ∷ []))
+phase_stays xs c r move s none same is = by r ∙ phase_kept xs c s.phase none is
+  where
+    by : (q : Result _ HouseFault) → (moved q move s).phase ≡ s.phase
+    by (Ok a) = same a
+    by (Err f) = refl
+
+-- a bell that was taken tells the phase
+phase_rung : (p : Phase) (b : Bell) (s : State) → is_ok (rung p b) ≡ true → (moved (rung p b) (λ q. record { phase = q; roll = s.roll }) s).phase ≡ phase_by b
+phase_rung phases.Listing bells.Open s ok = refl
+phase_rung phases.Listing bells.Close s ok = absurd (true≢false (sym ok))
+phase_rung phases.Trading bells.Open s ok = absurd (true≢false (sym ok))
+phase_rung phases.Trading bells.Close s ok = refl
+phase_rung phases.Closed bells.Open s ok = absurd (true≢false (sym ok))
+phase_rung phases.Closed bells.Close s ok = absurd (true≢false (sym ok))
+
 -- a bell leaves the series
 bell_leaves : (r : Result Phase HouseFault) (s : State) → (moved r (λ p. record { phase = p; roll = s.roll }) s).roll ≡ s.roll
 bell_leaves (Ok p) s = refl
@@ -275,26 +300,34 @@ told_entry d k lawful xs e s m ok t =
 
 pub told_call : (d : Day) (k ladders : ℕ) (lawful : ℕ → ℤ → Bool) (xs : List Call) (c : Call) (w : World) → is_taken ladders lawful c w ≡ true → Told d k xs w → Told d k (xs ++ (c ∷ [])) (next ladders lawful c w)
 told_call d k ladders lawful xs (ListCall l) w ok t = record {
+  phase = phase_stays xs (ListCall l) (listed_terms ladders l w.state) _ w.state (λ p. refl) (λ a. refl) t.phase;
   roll = told_listing ladders xs l w.state (sym (listed_ok w.state.roll.count (listed_terms ladders l w.state)) ∙ ok) t.roll;
   book = book_stays d k xs (ListCall l) w.book refl t.book;
 }
 told_call d k ladders lawful xs (Ring b) w ok t = record {
+  phase =
+      let r = rung w.state.phase b in
+      phase_rung w.state.phase b w.state (sym (told_ok tt r) ∙ sym (told_ok _ (told tt r)) ∙ ok) ∙ sym (fold_push phase_left phases.Listing xs (Ring b));
   roll = subst (RollTold (xs ++ (Ring b ∷ []))) (sym (bell_leaves (rung w.state.phase b) w.state)) (roll_stays xs (Ring b) w.state.roll refl (λ n o. refl) (λ n q. refl) t.roll);
   book = book_stays d k xs (Ring b) w.book refl t.book;
 }
 told_call d k ladders lawful xs (Enter e) w ok t = record {
+  phase = phase_kept xs (Enter e) w.state.phase (λ p. refl) t.phase;
   roll = roll_stays xs (Enter e) w.state.roll refl (λ n o. refl) (λ n q. refl) t.roll;
   book = told_entry d k lawful xs e w.state w.book (sym (told_ok _ (entry_answer lawful w.book e w.state)) ∙ ok) t.book;
 }
 told_call d k ladders lawful xs (SetTheory z value) w ok t = record {
+  phase = phase_stays xs (SetTheory z value) (theory_answer z value w.state) _ w.state (λ p. refl) (λ a. refl) t.phase;
   roll = told_theory xs z value w.state (sym (told_ok _ (theory_answer z value w.state)) ∙ ok) t.roll;
   book = book_stays d k xs (SetTheory z value) w.book refl t.book;
 }
 told_call d k ladders lawful xs (SetRuling z value first) w ok t = record {
+  phase = phase_stays xs (SetRuling z value first) (ruling_answer z value first w.state) _ w.state (λ p. refl) (λ a. refl) t.phase;
   roll = told_ruling xs z value first w.state (sym (told_ok _ (ruling_answer z value first w.state)) ∙ ok) t.roll;
   book = book_stays d k xs (SetRuling z value first) w.book refl t.book;
 }
 told_call d k ladders lawful xs (Settle z edition) w ok t = record {
+  phase = phase_kept xs (Settle z edition) w.state.phase (λ p. refl) t.phase;
   roll = roll_stays xs (Settle z edition) w.state.roll refl (λ n o. refl) (λ n q. refl) t.roll;
   book = book_stays d k xs (Settle z edition) w.book refl t.book;
 }

@@ -1,5 +1,5 @@
 -- Two runs, and what must be equal, raised or added in the evidence on the path of a series.
-use Rattle.std.specs.Prelude.{◌≡◌, ℕ, Bool, true, List, ℤ, Result, unsigned_abs}
+use Rattle.std.specs.Prelude.{◌≡◌, ℕ, Bool, true, List, length, ℤ, Result, unsigned_abs}
 use Rattle.std.specs.List.{AllZip, AllByRecursion}
 use Rattle.book.specs.Ledgers.{Ledger}
 use Rattle.book.specs.declared.days.Day.{Day}
@@ -13,7 +13,7 @@ use Rattle.house.specs.declared.houses.House.{House}
 use Rattle.runs.specs.Added.{Among}
 use Rattle.runs.specs.Kept.{kept}
 use Rattle.runs.specs.Raised.{EntryRaised}
-use Rattle.runs.specs.Readings.{entries, stands}
+use Rattle.runs.specs.Readings.{entries, listed, phase_after, stands}
 use Rattle.runs.specs.Runs.{World, after_run, new_world, taken, world}
 use Rattle.runs.specs.Stations.{NoLater, NotLower, SeriesRaised}
 use Rattle.runs.specs.declared.calls.Call.{Call}
@@ -51,10 +51,10 @@ new_run size lawful set d k calls = record { ladders = size set; lawful = lawful
 
 -- ---- which runs can be compared
 
--- in the end the series is listed and the edition open
+-- by the calls taken the series is listed and the edition open
 pub record Asked (r : Run) (n : ℤ) (ed : Edition) : Type 0 where
-  pub listed : is_listed (end r).state.roll.count n ≡ true
-  pub opened : is_open (end r).state.phase ed ≡ true
+  pub listed : is_listed (length (listed (taken_in r))) n ≡ true
+  pub opened : is_open (phase_after (taken_in r)) ed ≡ true
 
 -- one ladder set, by its meaning, and a question that may be asked in both
 pub record Alike (a b : Run) (n : ℤ) (ed : Edition) : Type 0 where

@@ -1,4 +1,4 @@
--- What calls tell of the series and of the book, read oldest first. They are meant of calls that were taken.
+-- What calls tell of the phase, of the series and of the book, read oldest first. They are meant of calls that were taken.
 use Rattle.std.specs.Prelude.{ℕ, cond, List, [], ◌∷◌, ℤ, Some, None, fold, Option, slice_index_or}
 use Rattle.std.specs.List.{flat_map}
 use Rattle.book.specs.Figures.{is_series}
@@ -8,12 +8,36 @@ use Rattle.rows.specs.declared.families.Family.{Family}
 use Rattle.house.specs.Calls.{ruling_of}
 use Rattle.house.specs.Series.{blank}
 use Rattle.house.specs.Terms.{terms_of}
+use Rattle.house.specs.declared.phases.Bell.{Bell}
+use Rattle.house.specs.declared.phases.Bell.TheVariants as bells
+use Rattle.house.specs.declared.phases.Phase.{Phase}
+use Rattle.house.specs.declared.phases.Phase.TheVariants as phases
 use Rattle.house.specs.declared.series.Ruling.{Ruling}
 use Rattle.house.specs.declared.series.Series.{Series}
 use Rattle.house.specs.declared.terms.Listing.{Listing}
 use Rattle.house.specs.declared.terms.Terms.{Terms}
 use Rattle.runs.specs.declared.calls.Call.{Call}
 use Rattle.runs.specs.declared.calls.Call.TheVariants.{List as ListCall, Ring, Enter, SetTheory, SetRuling, Settle}
+
+-- ---- the phase
+
+-- the open bell begins trading, and the close bell ends it
+abbrev pub phase_by : Bell → Phase
+phase_by bells.Open = phases.Trading
+phase_by bells.Close = phases.Closed
+
+-- what a call leaves of the phase
+abbrev pub phase_left : Phase → Call → Phase
+phase_left before (ListCall t) = before
+phase_left before (Ring b) = phase_by b
+phase_left before (Enter e) = before
+phase_left before (SetTheory m value) = before
+phase_left before (SetRuling m value first) = before
+phase_left before (Settle m edition) = before
+
+-- the phase that the last bell left; at first listing
+abbrev pub phase_after : List Call → Phase
+phase_after calls = fold phase_left phases.Listing calls
 
 -- ---- the series listed
 

@@ -6,7 +6,7 @@ use Rattle.book.specs.Records.{every, recorded}
 use Rattle.book.specs.declared.days.Day.{Day}
 use Rattle.house.specs.Rolls.{Roll}
 use Rattle.house.specs.Series.{blank, lawful_series}
-use Rattle.runs.specs.Readings.{entries, listed, stands}
+use Rattle.runs.specs.Readings.{entries, listed, phase_after, stands}
 use Rattle.runs.specs.Runs.{World}
 use Rattle.runs.specs.declared.calls.Call.{Call}
 
@@ -24,5 +24,6 @@ pub record BookTold (d : Day) (k : ℕ) (xs : List Call) (m : Ledger) : Type 0 w
   pub room : length (entries xs) ≤ k
 
 pub record Told (d : Day) (k : ℕ) (xs : List Call) (w : World) : Type 0 where
+  pub phase : w.state.phase ≡ phase_after xs
   pub roll : RollTold xs w.state.roll
   pub book : BookTold d k xs w.book
