@@ -3,11 +3,14 @@
 
 #[cfg(test)]
 mod tests {
+    use board::boards::Board;
+    use book::books::Book;
     use book::days::Day;
     use book::entries::{Entry, Kind};
     use book::lawful::LawfulDay;
     use house::answers::Settlement;
     use house::faults::HouseFault;
+    use house::houses::House;
     use house::phases::Bell;
     use house::terms::Listing;
     use ladders::bands::Band;
@@ -15,8 +18,9 @@ mod tests {
     use rows::places::{Edition, Marks};
     use rows::steps::Step;
     use runs::calls::Call;
-    use runs::comparing::compare_makes;
+    use runs::comparing::{Run, compare, compare_makes};
     use std::test::Fail;
+    use tape::tapes::Tape;
 
     const DAY: Day = Day {
         night: 61_200,
@@ -190,6 +194,43 @@ mod tests {
         let (first, second) = both(&calls, &others, 0)?;
         assert_eq!(rt; first, settled(100, Step::Theory, 3));
         assert_eq!(rt; second, settled(80, Step::Auction, 1));
+        Ok(())
+    }
+
+    // What was lent to the runs can be asked again and called further: the second house is still trading, on two trades.
+    #[test]
+    fn houses_and_books_hold_the_end_of_their_runs(rt: HostRuntime) -> Result<(), Fail> {
+        let day = LawfulDay::new(DAY)?;
+        let leg = Kind::Leg { price: 0, lots: 0 };
+        let mut places = [Entry {
+            series: 0,
+            stamp: 0,
+            kind: leg,
+        }; 8];
+        let mut house = House::new(EvenSet::new(&[10i64])?);
+        let mut board = Board::new(day, 8);
+        let mut other = House::new(EvenSet::new(&[10i64])?);
+        let mut tape = Tape::new(day, &mut places);
+        let calls = [list(1, None), OPEN, trade(0, 50), CLOSE];
+        let others = [list(1, None), OPEN, trade(0, 50), trade(0, 60)];
+        let first = Run {
+            house: &mut house,
+            book: &mut board,
+            calls: &calls,
+        };
+        let second = Run {
+            house: &mut other,
+            book: &mut tape,
+            calls: &others,
+        };
+        let (one, two) = compare(first, second, 0, Edition::Close);
+        assert_eq!(rt; one, settled(50, Step::Trade, 2));
+        assert_eq!(rt; two, Err(HouseFault::WrongPhase));
+        assert_eq!(rt; house.settle(&board, 0, Edition::Close), one);
+        assert_eq!(rt; (board.count(), tape.count()), (1, 2));
+        assert_eq!(rt; other.ring(Bell::Close), Ok(()));
+        let later = other.settle(&tape, 0, Edition::Close);
+        assert_eq!(rt; later, settled(60, Step::Trade, 2));
         Ok(())
     }
 

@@ -1,6 +1,7 @@
 // Two runs, whatever the makes of the ladder sets and of the books, and the same question asked after each.
 ghost use Rattle.std.specs.Prelude.{◌≡◌, min, length};
-ghost use Rattle.runs.specs.Laws.{Alike, Comparable, Laws, answer_in, new_run, run_in};
+ghost use Rattle.runs.specs.Laws.{Alike, Comparable, Laws, answer_in, end, new_run, run_in};
+ghost use Rattle.runs.specs.Runs.{world};
 
 use crate::calls::Call;
 use crate::performing::run;
@@ -15,7 +16,8 @@ use ladders::sets::LadderSet;
 use rows::places::Edition;
 use tape::tapes::Tape;
 
-// A run: a house, a book, and the calls to be made on them.
+// A run: a house, a book, and the calls to be made on them. Of a run handed over, a clause has the house as `exit.0` and the book
+// as `exit.1.0`, where it tells what they hold at the return.
 pub struct Run<'a, L: LadderSet, B> {
     pub house: &'a mut House<L>,
     pub book: &'a mut B,
@@ -25,7 +27,9 @@ pub struct Run<'a, L: LadderSet, B> {
 impl<L: LadderSet, B: Book> Run<'_, L, B> {
     // Makes the calls, and then asks.
     fn make_and_ask(self, series: i64, edition: Edition) -> Result<Settlement, HouseFault>
-        ensures { result ≡ answer_in (run_in L.LadderSet.size L.LadderSet.lawful B.Book.meaning self.entry) series edition }
+        ensures answer { result ≡ answer_in (run_in L.LadderSet.size L.LadderSet.lawful B.Book.meaning self.entry) series edition }
+        ensures after { world self.exit.0.now (B.Book.meaning self.exit.1.0.now) ≡ end (run_in L.LadderSet.size L.LadderSet.lawful B.Book.meaning self.entry) }
+        ensures set { self.exit.0.now.set ≡ self.entry.house.now.set }
     {
         let Run { house, book, calls } = self;
         run(house, book, calls);
@@ -46,14 +50,19 @@ fn ask_both<K: LadderSet, J: Book, L: LadderSet, B: Book>(
 )
     ensures one { result.0 ≡ answer_in (run_in K.LadderSet.size K.LadderSet.lawful J.Book.meaning first.entry) series edition }
     ensures other { result.1 ≡ answer_in (run_in L.LadderSet.size L.LadderSet.lawful B.Book.meaning second.entry) series edition }
+    ensures first_after { world first.exit.0.now (J.Book.meaning first.exit.1.0.now) ≡ end (run_in K.LadderSet.size K.LadderSet.lawful J.Book.meaning first.entry) }
+    ensures second_after { world second.exit.0.now (B.Book.meaning second.exit.1.0.now) ≡ end (run_in L.LadderSet.size L.LadderSet.lawful B.Book.meaning second.entry) }
+    ensures first_set { first.exit.0.now.set ≡ first.entry.house.now.set }
+    ensures second_set { second.exit.0.now.set ≡ second.entry.house.now.set }
 {
     let one = first.make_and_ask(series, edition);
     let other = second.make_and_ask(series, edition);
     (one, other)
 }
 
-// Performs two runs and asks both the same. If the runs can be compared (`Comparable`: new houses on empty books of one day,
-// ladder sets of one meaning, the series listed and the edition open in both), then
+// Performs two runs and asks both the same. Each house and each book then hold what stands at the end of its run, and each ladder
+// set is as it was. If the runs can be compared (`Comparable`: new houses on empty books of one day, ladder sets of one meaning,
+// and in both, by the calls taken, the series listed and the edition open), then
 // - the same evidence on the series' path gives the same answer;
 // - if only prices differ there, and none is lower in the second run, both settle on the same step and place, the second at
 //   no lower a price, or both are refused from the same origin;
@@ -68,6 +77,10 @@ pub fn compare<K: LadderSet, J: Book, L: LadderSet, B: Book>(
     Result<Settlement, HouseFault>,
 )
     ensures laws { Laws (Comparable (run_in K.LadderSet.size K.LadderSet.lawful J.Book.meaning first.entry) (run_in L.LadderSet.size L.LadderSet.lawful B.Book.meaning second.entry) series edition) (run_in K.LadderSet.size K.LadderSet.lawful J.Book.meaning first.entry) (run_in L.LadderSet.size L.LadderSet.lawful B.Book.meaning second.entry) series edition result.0 result.1 }
+    ensures first_after { world first.exit.0.now (J.Book.meaning first.exit.1.0.now) ≡ end (run_in K.LadderSet.size K.LadderSet.lawful J.Book.meaning first.entry) }
+    ensures second_after { world second.exit.0.now (B.Book.meaning second.exit.1.0.now) ≡ end (run_in L.LadderSet.size L.LadderSet.lawful B.Book.meaning second.entry) }
+    ensures first_set { first.exit.0.now.set ≡ first.entry.house.now.set }
+    ensures second_set { second.exit.0.now.set ≡ second.entry.house.now.set }
 {
     ask_both(first, second, series, edition)
 }
