@@ -1,6 +1,6 @@
 -- The ladder of every listed series is one of the set's.
-use Rattle.std.proofs.Common.{◌≡◌, ℕ, ◌<◌, Bool, true, ◌&&◌, eqb, ltb, ℤ, pos, negsuc, nat_abs, Some, None, Ok, Err, Option, Result, sym, ap, ◌∙◌, subst}
-use lib.Signed.{le_z, lt_z}
+use Rattle.std.proofs.Common.{◌≡◌, ℕ, ◌<◌, true, ◌&&◌, eqb, ltb, ℤ, pos, negsuc, nat_abs, Some, None, Ok, Err, Option, Result, sym, ap, ◌∙◌, subst}
+use lib.Signed.{le_z}
 use Rattle.std.proofs.lemmas.Bool.{and_parts, cond_both, ltb-true, true≢false}
 use Rattle.rows.specs.Families.{family_of}
 use Rattle.rows.specs.declared.families.Family.{Family}
@@ -20,11 +20,11 @@ placed_on : (ladders k : ℕ) (s : Series) (all : ℕ → Series) → s.terms.la
 placed_on ladders k s all one others n =
     cond_both (eqb n k) s (all n) (λ (x : Series). x.terms.ladder < ladders) (λ _. one) (λ _. others n)
 
--- after a series got another value, and kept its terms
-pub supplied_on : (ladders k : ℕ) (x s : Series) (before after : Roll) → OnLadders ladders before → x ≡ before.series k → s.terms ≡ x.terms → after ≡ changed k s before → OnLadders ladders after
-supplied_on ladders k x s before after on stood same is =
+-- after a series with the terms of one that is listed was put at any number
+pub supplied_on : (ladders k j : ℕ) (x s : Series) (before after : Roll) → OnLadders ladders before → x ≡ before.series k → s.terms ≡ x.terms → after ≡ changed j s before → OnLadders ladders after
+supplied_on ladders k j x s before after on stood same is =
     let ladder : s.terms.ladder ≡ (before.series k).terms.ladder = ap (λ (t : Terms). t.ladder) same ∙ ap (λ (y : Series). y.terms.ladder) stood in
-    subst (OnLadders ladders) (sym is) (placed_on ladders k s before.series (subst (λ l. l < ladders) (sym ladder) (on k)) on)
+    subst (OnLadders ladders) (sym is) (placed_on ladders j s before.series (subst (λ l. l < ladders) (sym ladder) (on k)) on)
 
 -- ---- terms that were checked
 

@@ -6,4 +6,4 @@ use Rattle.house.proofs.houses.House.set_ruling.Goals as goal
 pub invariant_of-self : goal.invariant_of-self
 invariant_of-self g c =
     let h = c.args.self.now in
-    record { laddered = supplied_on (g.L.LadderSet.size h.set) c.in_ok-number.number c.get-series.result _ (state h).roll _ h.laddered c.get-series.ensures.value refl c.put.ensures }
+    record { laddered = supplied_on (g.L.LadderSet.size h.set) c.in_ok-number.number _ c.get-series.result _ (state h).roll _ h.laddered c.get-series.ensures.value refl c.put.ensures }
