@@ -92,26 +92,38 @@ lines_split input ls rest s = ap lines_of s.whole ∙ split_lines ls rest s.unbr
 
 -- one byte before an input that is split
 byte_before : (b : ℕ) (input : List ℕ) (ls : List (List ℕ)) (rest : List ℕ) → b ≢ 10 → Splits input ls rest → (ms : List (List ℕ)) × (last : List ℕ) × Splits (b ∷ input) ms last
-byte_before b input [] rest h s = ([], b ∷ rest, record {
-  whole = ap (λ xs. b ∷ xs) s.whole;
-  unbroken = s.unbroken;
-  open_end = All-cons (λ b. b ≢ 10) b rest h s.open_end;
-})
-byte_before b input (l ∷ ls) rest h s = ((b ∷ l) ∷ ls, rest, record {
-  whole = ap (λ xs. b ∷ xs) s.whole;
-  unbroken = All-cons Unbroken (b ∷ l) ls (All-cons (λ b. b ≢ 10) b l h (All-head Unbroken l ls s.unbroken)) (All-tail Unbroken l ls s.unbroken);
-  open_end = s.open_end;
-})
+byte_before b input [] rest h s = (
+  [],
+  b ∷ rest,
+  record {
+    whole = ap (λ xs. b ∷ xs) s.whole;
+    unbroken = s.unbroken;
+    open_end = All-cons (λ b. b ≢ 10) b rest h s.open_end;
+  },
+)
+byte_before b input (l ∷ ls) rest h s = (
+  (b ∷ l) ∷ ls,
+  rest,
+  record {
+    whole = ap (λ xs. b ∷ xs) s.whole;
+    unbroken = All-cons Unbroken (b ∷ l) ls (All-cons (λ b. b ≢ 10) b l h (All-head Unbroken l ls s.unbroken)) (All-tail Unbroken l ls s.unbroken);
+    open_end = s.open_end;
+  },
+)
 
 pub all_split : AllSplit
 all_split [] = ([], [], splits_open [] (All-nil (λ b. b ≢ 10)))
 all_split (b ∷ bs) =
     let s = all_split bs in
     ⊎_elim
-    (λ e. ([] ∷ s.0, s.1, record {
-      whole = ap (λ c. c ∷ bs) e ∙ ap (λ xs. 10 ∷ xs) s.2.whole;
-      unbroken = All-cons Unbroken [] s.0 (All-nil (λ b. b ≢ 10)) s.2.unbroken;
-      open_end = s.2.open_end;
-    }))
+    (λ e. (
+      [] ∷ s.0,
+      s.1,
+      record {
+        whole = ap (λ c. c ∷ bs) e ∙ ap (λ xs. 10 ∷ xs) s.2.whole;
+        unbroken = All-cons Unbroken [] s.0 (All-nil (λ b. b ≢ 10)) s.2.unbroken;
+        open_end = s.2.open_end;
+      },
+    ))
     (λ n. byte_before b bs s.0 s.1 n s.2)
     (cases_eq b 10)

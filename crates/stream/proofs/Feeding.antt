@@ -17,27 +17,35 @@ use Rattle.stream.proofs.Cutting.{held_more, splits_ended, splits_join, splits_o
 use Rattle.stream.proofs.Speaking.{spoken_join, spoken_line, spoken_none}
 
 pub fed_none : (s : Standing) (old : List ℕ) → Fed s old [] [] s old
-fed_none s old = record { goes = λ line h is.
-    ([], line, subst (λ xs. Splits xs [] line) (sym (append-nil line)) (splits_open line h), spoken_none s, is) }
+fed_none s old = record {
+  goes = λ line h is.
+      ([], line, subst (λ xs. Splits xs [] line) (sym (append-nil line)) (splits_open line h), spoken_none s, is);
+}
 
 pub fed_join : (s t u : Standing) (a b c piece more out then : List ℕ) → Fed s a piece out t b → Fed t b more then u c → Fed s a (piece ++ more) (out ++ then) u c
-fed_join s t u a b c piece more out then f g = record { goes = λ line h is.
-    let x = f.goes line h is in
-    let y = g.goes x.1 x.2.open_end x.4 in
-    (x.0 ++ y.0,
-    y.1,
-    subst (λ xs. Splits xs (x.0 ++ y.0) y.1) (append_assoc line piece more) (splits_join (line ++ piece) more x.0 y.0 x.1 y.1 x.2 y.2),
-    spoken_join s t u x.0 y.0 out then x.3 y.3,
-    y.4) }
+fed_join s t u a b c piece more out then f g = record {
+  goes = λ line h is.
+      let x = f.goes line h is in
+      let y = g.goes x.1 x.2.open_end x.4 in (
+        x.0 ++ y.0,
+        y.1,
+        subst (λ xs. Splits xs (x.0 ++ y.0) y.1) (append_assoc line piece more) (splits_join (line ++ piece) more x.0 y.0 x.1 y.1 x.2 y.2),
+        spoken_join s t u x.0 y.0 out then x.3 y.3,
+        y.4,
+      );
+}
 
 -- a byte that is no newline goes on with the line
 pub fed_byte : (s : Standing) (old new : List ℕ) (b : ℕ) → b ≢ 10 → new ≡ held (old ++ (b ∷ [])) → Fed s old (b ∷ []) [] s new
-fed_byte s old new b other is = record { goes = λ line h was.
-    ([],
+fed_byte s old new b other is = record {
+  goes = λ line h was. (
+    [],
     line ++ (b ∷ []),
     splits_open (line ++ (b ∷ [])) (All-push (λ b. b ≢ 10) line b h other),
     spoken_none s,
-    is ∙ ap (λ l. held (l ++ (b ∷ []))) was ∙ held_more line b) }
+    is ∙ ap (λ l. held (l ++ (b ∷ []))) was ∙ held_more line b,
+  );
+}
 
 -- ---- the bytes printed
 

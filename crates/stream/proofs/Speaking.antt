@@ -56,11 +56,13 @@ parsed_held line r h = ⊎_elim (λ l. long l r h) (λ l. subst (λ xs. Parsed x
   where
     long : 200 < length line → (r : Result LineCall NotRead) → Parsed (held line) r → Parsed line r
     long l (Ok c) h = absurd (omega (arith, ap length h.1, written_short c h.0, length-take-le 201 line (omega arith)))
-    long l (Err e) h =
-        (λ c b w. omega (arith, ap length w, written_short c b), record {
-          long = λ k. h.1.long (omega (arith, length-take-le 201 line (omega arith)));
-          short = λ k. absurd (omega arith);
-        })
+    long l (Err e) h = (
+      λ c b w. omega (arith, ap length w, written_short c b),
+      record {
+        long = λ k. h.1.long (omega (arith, length-take-le 201 line (omega arith)));
+        short = λ k. absurd (omega arith);
+      },
+    )
 
 -- the answer to what is held of a line is the answer to the line
 pub spoken_line : (line : List ℕ) (s : Standing) (answer : Result Reply LineFault) (t : Standing) → Heard (held line) s answer t → Spoken s (line ∷ []) (answer_text answer ++ (10 ∷ [])) t
@@ -82,6 +84,8 @@ same_readings (l ∷ ls) (r ∷ rs) [] h k = absurd k
 same_readings (l ∷ ls) (r ∷ rs) (q ∷ qs) h k = λ i. one_reading l r q h.0 k.0 i ∷ same_readings ls rs qs h.1 k.1 i
 
 pub one_transcript : OneTranscript
-one_transcript s ls out more t u a b =
-    let same = same_readings ls a.readings b.readings a.read b.read in
-    (a.printed ∙ ap (transcript s) same ∙ sym b.printed, a.after ∙ ap (after_lines s) same ∙ sym b.after)
+one_transcript = record {
+  once = λ s ls out more t u a b.
+      let same = same_readings ls a.readings b.readings a.read b.read in
+      (a.printed ∙ ap (transcript s) same ∙ sym b.printed, a.after ∙ ap (after_lines s) same ∙ sym b.after);
+}

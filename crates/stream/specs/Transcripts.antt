@@ -24,7 +24,6 @@ pub record Spoken (s : Standing) (lines : List (List ℕ)) (out : List ℕ) (t :
   pub after : t ≡ after_lines s readings
 
 -- what is printed rests on the lines alone: no lines have two transcripts, or lead to two ends
-abbrev pub OneTranscript : Type 0
-OneTranscript =
-    (s : Standing) (lines : List (List ℕ)) (out more : List ℕ) (t u : Standing)
-    → Spoken s lines out t → Spoken s lines more u → (out ≡ more) × (t ≡ u)
+pub record OneTranscript : Type 0 where
+  pub once : (s : Standing) (lines : List (List ℕ)) (out more : List ℕ) (t u : Standing)
+      → Spoken s lines out t → Spoken s lines more u → (out ≡ more) × (t ≡ u)

@@ -1,4 +1,6 @@
 // A whole input, from the first line to the last.
+#![tactic(auto, using(crate::proofs::Speaking::one_transcript, crate::proofs::Cutting::lines_split, crate::proofs::Cutting::all_split))]
+
 ghost use Rattle.std.specs.Prelude.{◌≡◌, ◌≤◌, take, IfOk, OnOk};
 ghost use Rattle.std.specs.Io.KnownBytes.{Consumes, IsAtEnd};
 ghost use Rattle.stream.specs.Served.{Served};
@@ -6,6 +8,8 @@ ghost use Rattle.stream.specs.Transcripts.{OneTranscript};
 ghost use Rattle.stream.specs.Inputs.{AllSplit, SplitLines};
 
 use crate::sessions::Session;
+use answers::writing::ROOM;
+use board::boards::Board;
 use book::books::Reusable;
 use std::io;
 use std::io::{ErrorKind, Read, Write};
@@ -32,13 +36,17 @@ fn next_piece<R: Read>(input: &mut R, piece: &mut [u8; PIECE]) -> io::Result<usi
 }
 
 // Answers the lines of an input until it ends. Answers go out before the next piece is read, so that whoever waits for one has it;
-// a write that fails ends it.
+// a write that fails ends it. The laws beside it are of the words that it is told in: no lines have two transcripts, and every
+// input falls into lines in one way.
 pub fn serve<B: Reusable, R: Read, W: Write>(
     book: &mut B,
     input: &mut R,
     output: &mut W,
 ) -> io::Result<()>
     ensures served { OnOk result (Served (R.remaining input.old) (W.contents output.old) (W.contents output.new) (B.Book.meaning book.old) (B.Book.meaning book.new)) }
+    ensures once { OneTranscript }
+    ensures lines { SplitLines }
+    ensures split { AllSplit }
 {
     let mut session = Session::new();
     let mut piece = [0; PIECE];
@@ -51,4 +59,11 @@ pub fn serve<B: Reusable, R: Read, W: Write>(
         session.flush(output)?;
     }
     Err(ErrorKind::Other.into())
+}
+
+// How many bytes a board and all that `serve` holds beside it take: input, lines, answers, output and the house.
+pub fn bytes_on_a_board() -> usize
+    ensures { result ≤ 65536 }
+{
+    Board::size() + size_of::<Session>() + PIECE + (ROOM + 1)
 }

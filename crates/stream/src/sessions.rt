@@ -97,11 +97,7 @@ impl Session {
     }
 
     // The input has ended.
-    pub fn finish<B: Reusable, W: Write>(
-        &mut self,
-        book: &mut B,
-        writer: &mut W,
-    ) -> io::Result<()>
+    pub fn finish<B: Reusable, W: Write>(&mut self, book: &mut B, writer: &mut W) -> io::Result<()>
         ensures { OnOk result (Finished (seen self.old (W.contents writer.old) (B.Book.meaning book.old)) (W.contents writer.new) (B.Book.meaning book.new)) }
     {
         self.close(book, writer)?;
