@@ -32,8 +32,5 @@ pub enum Reply {
     // The number of the series.
     Listed(u8),
     // The series as the question named it, and its settlement.
-    Settled {
-        series: i64,
-        settlement: Settlement,
-    },
+    Settled { series: i64, settlement: Settlement },
 }
