@@ -24,7 +24,7 @@ use runs::performing::perform;
 use tape::tapes::Tape;
 
 // A small day: more entries than these find the books full. It stands in `figures` too, as BLANK does: the two programs
-// share no crate, and each is to be retired by itself.
+// share no crate.
 const PLACES: usize = 256;
 
 // The line of the first call, after the day line.
