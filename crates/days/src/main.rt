@@ -22,7 +22,7 @@ use std::alloc::Global;
 use std::str;
 use tape::tapes::Tape;
 
-const DAYS: u64 = 400;
+const DAYS: u64 = 2_000;
 
 // The most places that a day's book has here.
 const PLACES: usize = 256;
