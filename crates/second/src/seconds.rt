@@ -67,3 +67,58 @@ impl fmt::Display for Reply {
         }
     }
 }
+
+#[cfg(test)]
+mod tests {
+    use super::*;
+    use std::process::Abort;
+    use std::test::Fail;
+
+    const DAY: [(&str, &str); 12] = [
+        ("settle 0 close", "refused 2"),
+        (
+            "day 61200 117900 131400 143100 126000 10000 5000 10 1",
+            "done",
+        ),
+        ("list 6 0 - 38400000 - 0 0", "listed 0"),
+        ("list 8 1 0 - - 0 0", "listed 1"),
+        ("bell open", "done"),
+        ("trade 0 142199 38500000 2", "done"),
+        ("trade 0 142200 38500001 2", "refused 7"),
+        ("theory 0 38515000", "done"),
+        ("settle 1 morning", "price 1 38520000 C 1"),
+        ("bell close", "done"),
+        ("settle 1 close", "price 1 38520000 C 1"),
+        ("settle", "refused 11 6"),
+    ];
+
+    const UNSETTLED: [(&str, &str); 8] = [
+        ("day 61200 117900 131400 143100 126000 10 10 10 10", "done"),
+        ("list 1 0 - - - 0 0", "listed 0"),
+        ("list 2 0 0 - - 0 0", "listed 1"),
+        ("list 8 0 1 - - 0 0", "listed 2"),
+        ("bell open", "done"),
+        ("bell close", "done"),
+        ("settle 2 close", "refused 10 0"),
+        ("settle 2 morning", "refused 10 1"),
+    ];
+
+    fn answers_are(rt: &impl Abort, alloc: Global, lines: &[(&str, &str)]) -> Result<(), Fail> {
+        let mut second = Second::new(alloc, MOST_PLACES);
+        for (line, wanted) in lines {
+            let answer = second.answer(line.as_bytes())?;
+            assert_eq!(rt; answer.as_str(), *wanted);
+        }
+        Ok(())
+    }
+
+    #[test]
+    fn a_day(rt: HostRuntime) -> Result<(), Fail> {
+        answers_are(&rt, rt.alloc(), &DAY)
+    }
+
+    #[test]
+    fn nothing_to_settle_by(rt: HostRuntime) -> Result<(), Fail> {
+        answers_are(&rt, rt.alloc(), &UNSETTLED)
+    }
+}
