@@ -1,7 +1,7 @@
 -- How an input falls into lines, and what is held of a line.
-use Rattle.std.proofs.Common.{◌≡◌, ◌≢◌, ℕ, ◌+◌, ◌<◌, ◌≤◌, eqb, List, [], ◌∷◌, ◌++◌, length, take, set, All, refl, sym, ap, ◌∙◌, ⊎_elim, arith}
+use Rattle.std.proofs.Common.{◌≡◌, ◌≢◌, ℕ, ◌+◌, ◌-◌, ◌<◌, ◌≤◌, min, Bool, true, false, cond, eqb, List, [], ◌∷◌, ◌++◌, length, take, drop, All, refl, sym, ap, ◌∙◌, ⊎_elim, arith}
 use Rattle.std.proofs.lemmas.Bool.{cases_eq, cases_lt, cond-false, ne_eqb}
-use Rattle.std.proofs.lemmas.List.{append-nil, append_assoc, length-take-le, length_push, take-append-le, take-take, take_all, take_more_set}
+use Rattle.std.proofs.lemmas.List.{append-nil, append_assoc, drop-take, drop_at, length-take-le, take-append-drop, take-append-le, take-take, take_all, take_at, take_min}
 use Rattle.std.proofs.lemmas.List.Concat.{flat_map-append}
 use Rattle.std.proofs.lemmas.List.Elements.{All-append, All-cons, All-head, All-nil, All-tail}
 use Rattle.lines.specs.Fields.{onto}
@@ -14,25 +14,34 @@ use Rattle.stream.specs.Held.{held}
 pub held_short : (line : List ℕ) → length line ≤ 201 → held line ≡ line
 held_short line h = take_all 201 line h
 
--- of what is held, and of the line, the same is held after one byte more
-pub held_more : (line : List ℕ) (b : ℕ) → held (held line ++ (b ∷ [])) ≡ held (line ++ (b ∷ []))
-held_more line b =
+-- of what is held, and of the line, the same is held after more bytes
+pub held_more : (line bytes : List ℕ) → held (held line ++ bytes) ≡ held (line ++ bytes)
+held_more line bytes =
     ⊎_elim
-    (λ h. take-append-le 201 (held line) (b ∷ []) (omega (arith, length-take-le 201 line (omega arith))) ∙ take-take 201 201 line (omega arith) ∙ sym (take-append-le 201 line (b ∷ []) (omega arith)))
-    (λ h. ap (λ l. held (l ++ (b ∷ []))) (held_short line (omega arith)))
+    (λ h. take-append-le 201 (held line) bytes (omega (arith, length-take-le 201 line (omega arith))) ∙ take-take 201 201 line (omega arith) ∙ sym (take-append-le 201 line bytes (omega arith)))
+    (λ h. ap (λ l. held (l ++ bytes)) (held_short line (omega arith)))
     (cases_lt 201 (length line))
 
--- a byte written behind the first n of 201 places
-pub held_written : (bytes : List ℕ) (n b : ℕ) → length bytes ≡ 201 → n < 201 → take (n + 1) (set bytes n b) ≡ held (take n bytes ++ (b ∷ []))
-held_written bytes n b size room =
-    take_more_set bytes n b (omega arith)
-    ∙ sym (held_short (take n bytes ++ (b ∷ [])) (omega (arith, length_push (take n bytes) b, length-take-le n bytes (omega arith))))
+-- a front of at most 201 bytes, and of more bytes as many as there is room for
+pub held_room : (front bytes : List ℕ) → length front ≤ 201 → front ++ take (201 - length front) bytes ≡ held (front ++ bytes)
+held_room front bytes h =
+    let n = length front in
+    let k = 201 - n in
+    let xs = front ++ bytes in
+    let all : n + k ≡ 201 = omega arith in
+    sym
+    (ap (λ m. take m xs) (sym all)
+    ∙ sym (take-append-drop n (take (n + k) xs))
+    ∙ ap (λ ys. ys ++ drop n (take (n + k) xs)) (take-take n (n + k) xs (omega arith) ∙ take_at front bytes n refl)
+    ∙ ap (λ ys. front ++ ys) (drop-take n k xs ∙ ap (take k) (drop_at front bytes n refl)))
 
--- when all places are taken no more is held
-pub held_full : (bytes : List ℕ) (n b : ℕ) → length bytes ≡ 201 → n ≡ 201 → take n bytes ≡ held (take n bytes ++ (b ∷ []))
-held_full bytes n b size full =
-    let taken : length (take n bytes) ≡ n = length-take-le n bytes (omega arith) in
-    sym (take-append-le 201 (take n bytes) (b ∷ []) (omega arith) ∙ held_short (take n bytes) (omega arith))
+-- the same, where no more bytes are taken than there are
+pub held_pushed : (front bytes : List ℕ) (n : ℕ) → length front ≡ n → n ≤ 201 → front ++ take (min (length bytes) (201 - n)) bytes ≡ held (front ++ bytes)
+held_pushed front bytes n size few =
+    let least : min (length bytes) (201 - n) ≡ min (201 - length front) (length bytes) = omega arith in
+    ap (λ m. front ++ take m bytes) least
+    ∙ ap (λ xs. front ++ xs) (take_min (201 - length front) bytes)
+    ∙ held_room front bytes (omega arith)
 
 -- ---- pieces of an input
 

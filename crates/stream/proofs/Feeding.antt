@@ -1,20 +1,22 @@
 -- A session given one piece after the other.
-use Rattle.std.proofs.Common.{◌≡◌, ◌≢◌, ℕ, suc, ◌+◌, ◌-◌, ◌≤◌, List, [], ◌∷◌, ◌++◌, length, take, drop, replicate, Some, None, Ok, Err, Option, Result, refl, sym, ap, ◌∙◌, subst, arith}
+use Rattle.std.proofs.Common.{◌≡◌, ◌≢◌, ℕ, suc, ◌+◌, ◌-◌, ◌<◌, ◌≤◌, List, [], ◌∷◌, ◌++◌, length, take, drop, get_or, replicate, All, Some, None, Ok, Err, Option, Result, refl, sym, ap, ◌∙◌, subst, arith}
 use Rattle.std.specs.Io.KnownBytes.{Appends}
 use Rattle.std.proofs.KnownBytes.{Appends-nil, Appends-trans}
-use Rattle.std.proofs.lemmas.List.{append-nil, append_assoc, drop-replicate, length_push, take_at}
-use Rattle.std.proofs.lemmas.List.Elements.{All-push}
+use Rattle.std.proofs.lemmas.Bool.{eq-eqb, eqb-true}
+use Rattle.std.proofs.lemmas.List.{append-nil, append_assoc, drop-replicate, get_or-take, length-take-le, length_push, take-append-drop, take_all, take_at, take_more}
+use Rattle.std.proofs.lemmas.List.Elements.{All-append, All-from_get_or, All-nil}
+use Rattle.memchr.specs.Find.{NoneBefore, Nowhere, Passes, is_byte}
 use Rattle.answers.specs.Texts.{answer_text}
 use Rattle.answers.specs.declared.faults.LineFault.{LineFault}
 use Rattle.desk.specs.Desks.{Standing}
 use Rattle.desk.specs.Responses.{Heard, Responded}
-use Rattle.stream.specs.Held.{Answered, Closed, Fed, View, Went, held}
-use Rattle.stream.specs.Inputs.{Splits, last_line}
+use Rattle.stream.specs.Held.{Closed, Ended, Fed, Said, View, Went, held}
+use Rattle.stream.specs.Inputs.{Splits, Unbroken, last_line}
 use Rattle.stream.specs.Sessions.{printed, unsent}
 use Rattle.stream.specs.Transcripts.{Spoken}
 use Rattle.stream.specs.declared.unsent.Unsent.{Unsent}
 use Rattle.stream.proofs.Cutting.{held_more, splits_ended, splits_join, splits_open}
-use Rattle.stream.proofs.Speaking.{spoken_join, spoken_line, spoken_none}
+use Rattle.stream.proofs.Speaking.{spoken_held, spoken_join, spoken_line, spoken_none}
 
 pub fed_none : (s : Standing) (old : List ℕ) → Fed s old [] [] s old
 fed_none s old = record {
@@ -35,15 +37,15 @@ fed_join s t u a b c piece more out then f g = record {
       );
 }
 
--- a byte that is no newline goes on with the line
-pub fed_byte : (s : Standing) (old new : List ℕ) (b : ℕ) → b ≢ 10 → new ≡ held (old ++ (b ∷ [])) → Fed s old (b ∷ []) [] s new
-fed_byte s old new b other is = record {
+-- bytes without a newline go on with the line
+pub fed_open : (s : Standing) (old new bytes : List ℕ) → Unbroken bytes → new ≡ held (old ++ bytes) → Fed s old bytes [] s new
+fed_open s old new bytes other is = record {
   goes = λ line h was. (
     [],
-    line ++ (b ∷ []),
-    splits_open (line ++ (b ∷ [])) (All-push (λ b. b ≢ 10) line b h other),
+    line ++ bytes,
+    splits_open (line ++ bytes) (All-append (λ b. b ≢ 10) line bytes h other),
     spoken_none s,
-    is ∙ ap (λ l. held (l ++ (b ∷ []))) was ∙ held_more line b,
+    is ∙ ap (λ l. held (l ++ bytes)) was ∙ held_more line bytes,
   );
 }
 
@@ -63,29 +65,60 @@ abbrev told : Result ℕ LineFault → ℕ
 told (Ok n) = n
 told (Err f) = 0
 
--- a response to the line that has ended, printed with a newline
-pub answered_line : (a b : View) (line out shown : List ℕ) (r : Result ℕ LineFault) (n : ℕ)
-    → line ≡ a.held → Responded line a.standing (replicate 97 10) r out b.standing → r ≡ Ok n → n ≤ 96
-    → shown ≡ take (n + 1) out → Appends a.printed b.printed shown → b.held ≡ []
-    → Answered a b
-answered_line a b line out shown r n is response ok short is_shown appended cleared =
+-- a response to a line, printed with a newline
+pub said_line : (line : List ℕ) (s t : Standing) (before after : Option (List ℕ)) (out shown : List ℕ) (r : Result ℕ LineFault) (n : ℕ)
+    → Responded line s (replicate 97 10) r out t → r ≡ Ok n → n ≤ 96 → shown ≡ take (n + 1) out → Appends before after shown
+    → Said line s before after t
+said_line line s t before after out shown r n response ok short is_shown appended =
     let x = response.long (omega arith) in
     let answer = x.0 in
     let y = x.2.long (omega arith) in
     let same : n ≡ length (answer_text answer) = ap told (sym ok ∙ y.0) in
     record {
       out = answer_text answer ++ (10 ∷ []);
-      written = subst (Appends a.printed b.printed) (is_shown ∙ newline_behind (answer_text answer) out n same short y.1) appended;
-      spoken = λ whole was. spoken_line whole a.standing answer b.standing (subst (λ xs. Heard xs a.standing answer b.standing) (is ∙ was) x.1);
-      held = cleared;
+      written = subst (Appends before after) (is_shown ∙ newline_behind (answer_text answer) out n same short y.1) appended;
+      spoken = spoken_line line s answer t x.1;
     }
 
--- a newline ends a line
-pub went_newline : (a b : View) → Answered a b → Went a (10 ∷ []) b
-went_newline a b x = record {
+-- a held line that is nothing
+nothing_held : (line : List ℕ) → held line ≡ [] → line ≡ []
+nothing_held [] e = refl
+nothing_held (b ∷ bs) e = absurd (omega (arith, ap length e))
+
+-- a line that stands whole in a piece
+pub ended_whole : (a b : View) (bytes : List ℕ) → a.held ≡ [] → b.held ≡ [] → Said bytes a.standing a.printed b.printed b.standing → Ended a bytes b
+ended_whole a b bytes none cleared x = record {
   out = x.out;
   written = x.written;
-  fed = record { goes = λ line h was. (line ∷ [], [], splits_ended line h, x.spoken line was, x.held) };
+  spoken = λ line was. subst (λ (l : List ℕ). Spoken a.standing ((l ++ bytes) ∷ []) x.out b.standing) (sym (nothing_held line (sym was ∙ none))) x.spoken;
+  held = cleared;
+}
+
+-- a line of which something was held
+pub ended_held : (a b : View) (bytes line : List ℕ) → line ≡ held (a.held ++ bytes) → b.held ≡ [] → Said line a.standing a.printed b.printed b.standing → Ended a bytes b
+ended_held a b bytes line is cleared x = record {
+  out = x.out;
+  written = x.written;
+  spoken = λ whole was.
+      spoken_held (whole ++ bytes) a.standing b.standing x.out
+      (subst (λ (l : List ℕ). Spoken a.standing (l ∷ []) x.out b.standing) (is ∙ ap (λ l. held (l ++ bytes)) was ∙ held_more whole bytes) x.spoken);
+  held = cleared;
+}
+
+-- a newline ends a line
+went_ended : (a b : View) (bytes : List ℕ) → Unbroken bytes → Ended a bytes b → Went a (bytes ++ (10 ∷ [])) b
+went_ended a b bytes other x = record {
+  out = x.out;
+  written = x.written;
+  fed = record {
+    goes = λ line h was. (
+      (line ++ bytes) ∷ [],
+      [],
+      subst (λ xs. Splits xs ((line ++ bytes) ∷ []) []) (append_assoc line bytes (10 ∷ [])) (splits_ended (line ++ bytes) (All-append (λ b. b ≢ 10) line bytes h other)),
+      x.spoken line was,
+      x.held,
+    );
+  };
 }
 
 -- the input ends behind a newline
@@ -95,14 +128,14 @@ closed_none a none = record {
   written = Appends-nil a.printed;
   last = λ line h was. subst (λ ls. Spoken a.standing ls [] a.standing) (sym (ap last_line (nothing_held line (sym was ∙ none)))) (spoken_none a.standing);
 }
-  where
-    nothing_held : (line : List ℕ) → held line ≡ [] → line ≡ []
-    nothing_held [] e = refl
-    nothing_held (b ∷ bs) e = absurd (omega (arith, ap length e))
 
 -- or within a line
-pub closed_line : (a b : View) → (a.held ≡ [] → ⊥) → Answered a b → Closed a b
-closed_line a b some x = record { out = x.out; written = x.written; last = λ line h was. one line was (x.spoken line was) }
+pub closed_line : (a b : View) → (a.held ≡ [] → ⊥) → Ended a [] b → Closed a b
+closed_line a b some x = record {
+  out = x.out;
+  written = x.written;
+  last = λ line h was. one line was (subst (λ (l : List ℕ). Spoken a.standing (l ∷ []) x.out b.standing) (append-nil line) (x.spoken line was));
+}
   where
     one : (line : List ℕ) → a.held ≡ held line → Spoken a.standing (line ∷ []) x.out b.standing → Spoken a.standing (last_line line) x.out b.standing
     one [] was h = absurd (some was)
@@ -113,13 +146,13 @@ pub printed_none : (contents : Option (List ℕ)) (u : Unsent) → unsent u ≡ 
 printed_none None u h = refl
 printed_none (Some xs) u h = ap (λ ys. Some (xs ++ ys)) h ∙ ap Some (append-nil xs)
 
--- a byte that is no newline
-pub went_byte : (printed : Option (List ℕ)) (s : Standing) (old new : List ℕ) (b : ℕ) → b ≢ 10 → new ≡ held (old ++ (b ∷ []))
-    → Went (record { printed = printed; standing = s; held = old }) (b ∷ []) (record { printed = printed; standing = s; held = new })
-went_byte printed s old new b other is = record { out = []; written = Appends-nil printed; fed = fed_byte s old new b other is }
-
 pub went_none : (a : View) → Went a [] a
 went_none a = record { out = []; written = Appends-nil a.printed; fed = fed_none a.standing a.held }
+
+-- bytes without a newline
+pub went_open : (printed : Option (List ℕ)) (s : Standing) (old new bytes : List ℕ) → Unbroken bytes → new ≡ held (old ++ bytes)
+    → Went (record { printed = printed; standing = s; held = old }) bytes (record { printed = printed; standing = s; held = new })
+went_open printed s old new bytes other is = record { out = []; written = Appends-nil printed; fed = fed_open s old new bytes other is }
 
 pub went_join : (a b c : View) (piece more : List ℕ) → Went a piece b → Went b more c → Went a (piece ++ more) c
 went_join a b c piece more x y = record {
@@ -127,3 +160,48 @@ went_join a b c piece more x y = record {
   written = Appends-trans a.printed b.printed c.printed x.out y.out x.written y.written;
   fed = fed_join a.standing b.standing c.standing a.held b.held c.held piece more x.out y.out x.fed y.fed;
 }
+
+-- ---- a piece, newline by newline
+
+-- the front of a piece was gone through, and the rest is left
+pub record Gone (piece rest : List ℕ) (a b : View) : Type 0 where
+  pub front : List ℕ
+  pub whole : piece ≡ front ++ rest
+  pub went : Went a front b
+
+pub gone_none : (piece : List ℕ) (a : View) → Gone piece piece a a
+gone_none piece a = record { front = []; whole = refl; went = went_none a }
+
+-- no newline stands before a place
+unbroken_before : (rest : List ℕ) (n : ℕ) → n ≤ length rest → Nowhere (Passes (is_byte 10) rest) 0 n → Unbroken (take n rest)
+unbroken_before rest n h none =
+    All-from_get_or (λ b. b ≢ 10) (take n rest) 0
+    (λ i l is.
+    let under : i < n = omega (arith, length-take-le n rest h) in
+    none i (omega arith) under (eq-eqb (get_or rest i 0) 10 (sym (get_or-take n rest i 0 under) ∙ is)))
+
+-- as far as the next newline
+pub gone_line : (piece rest : List ℕ) (n : ℕ) (a b c : View) → NoneBefore (Passes (is_byte 10) rest) 0 (length rest) n → Passes (is_byte 10) rest n → Gone piece rest a b → Ended b (take n rest) c → Gone piece (drop (n + 1) rest) a c
+gone_line piece rest n a b c first newline p x =
+    let bytes = take n rest ++ (10 ∷ []) in
+    let high = first.high in
+    let up_to : take (n + 1) rest ≡ bytes = take_more rest n 0 high ∙ ap (λ b. take n rest ++ (b ∷ [])) (eqb-true (get_or rest n 0) 10 newline) in
+    let unbroken = unbroken_before rest n (omega arith) first.before in
+    record {
+      front = p.front ++ bytes;
+      whole =
+          p.whole
+          ∙ ap (λ xs. p.front ++ xs) (sym (take-append-drop (n + 1) rest) ∙ ap (λ xs. xs ++ drop (n + 1) rest) up_to)
+          ∙ sym (append_assoc p.front bytes (drop (n + 1) rest));
+      went = went_join a b c p.front bytes p.went (went_ended b c (take n rest) unbroken x);
+    }
+
+-- and to the end, where none is left
+pub gone_all : (piece rest new : List ℕ) (printed : Option (List ℕ)) (s : Standing) (old : List ℕ) (a : View)
+    → Nowhere (Passes (is_byte 10) rest) 0 (length rest) → Gone piece rest a (record { printed = printed; standing = s; held = old }) → new ≡ held (old ++ rest)
+    → Went a piece (record { printed = printed; standing = s; held = new })
+gone_all piece rest new printed s old a none p is =
+    let unbroken : Unbroken rest = subst Unbroken (take_all (length rest) rest (omega arith)) (unbroken_before rest (length rest) (omega arith) none) in
+    subst (λ xs. Went a xs (record { printed = printed; standing = s; held = new })) (sym p.whole)
+    (went_join a (record { printed = printed; standing = s; held = old }) (record { printed = printed; standing = s; held = new }) p.front rest p.went
+    (went_open printed s old new rest unbroken is))

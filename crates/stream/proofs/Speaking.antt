@@ -64,11 +64,21 @@ parsed_held line r h = ⊎_elim (λ l. long l r h) (λ l. subst (λ xs. Parsed x
       },
     )
 
--- the answer to what is held of a line is the answer to the line
-pub spoken_line : (line : List ℕ) (s : Standing) (answer : Result Reply LineFault) (t : Standing) → Heard (held line) s answer t → Spoken s (line ∷ []) (answer_text answer ++ (10 ∷ [])) t
+-- what is said to what is held of a line is said to the line
+pub spoken_held : (line : List ℕ) (s t : Standing) (out : List ℕ) → Spoken s (held line ∷ []) out t → Spoken s (line ∷ []) out t
+spoken_held line s t out x = record { readings = x.readings; read = whole x.readings x.read; printed = x.printed; after = x.after }
+  where
+    whole : (rs : List (Result LineCall NotRead)) → AllZip Parsed (held line ∷ []) rs → AllZip Parsed (line ∷ []) rs
+    whole [] h = absurd h
+    whole (r ∷ rs) h = (parsed_held line r h.0, one rs h.1)
+      where
+        one : (rs : List (Result LineCall NotRead)) → AllZip Parsed [] rs → AllZip Parsed [] rs
+        one rs h = h
+
+pub spoken_line : (line : List ℕ) (s : Standing) (answer : Result Reply LineFault) (t : Standing) → Heard line s answer t → Spoken s (line ∷ []) (answer_text answer ++ (10 ∷ [])) t
 spoken_line line s answer t h = record {
   readings = h.read ∷ [];
-  read = (parsed_held line h.read h.parsed, tt);
+  read = (h.parsed, tt);
   printed = ap (λ a. answer_text a ++ (10 ∷ [])) h.answered;
   after = h.after;
 }

@@ -28,11 +28,11 @@ pub record View : Type 0 where
 abbrev pub at_first : Option (List ℕ) → Ledger → View
 at_first contents m = record { printed = contents; standing = waiting m; held = [] }
 
--- the line that has ended is answered, and nothing is held of the next
-pub record Answered (a b : View) : Type 0 where
+-- the line that ends with these bytes is answered, and nothing is held of the next
+pub record Ended (a : View) (bytes : List ℕ) (b : View) : Type 0 where
   pub out : List ℕ
   pub written : Appends a.printed b.printed out
-  pub spoken : (line : List ℕ) → a.held ≡ held line → Spoken a.standing (line ∷ []) out b.standing
+  pub spoken : (line : List ℕ) → a.held ≡ held line → Spoken a.standing ((line ++ bytes) ∷ []) out b.standing
   pub held : b.held ≡ []
 
 -- given a piece, it answers the lines that ended in it
@@ -53,3 +53,9 @@ pub record Flushed (a : View) (contents : Option (List ℕ)) (b : View) : Type 0
   pub printed : Keeps contents b.printed
   pub standing : b.standing ≡ a.standing
   pub held : b.held ≡ a.held
+
+-- a line is answered, where it stands so: its answer and a newline are printed
+pub record Said (line : List ℕ) (s : Standing) (before after : Option (List ℕ)) (t : Standing) : Type 0 where
+  pub out : List ℕ
+  pub written : Appends before after out
+  pub spoken : Spoken s (line ∷ []) out t

@@ -1,5 +1,5 @@
 // The line that has not ended yet.
-ghost use Rattle.std.specs.Prelude.{◌≡◌, ◌≤◌, [], ◌∷◌, ◌++◌};
+ghost use Rattle.std.specs.Prelude.{◌≡◌, ◌≤◌, [], ◌++◌};
 ghost use Rattle.stream.specs.Held.{held};
 
 // One byte more than the longest line of a call.
@@ -31,14 +31,14 @@ impl Pending {
         &self.bytes[..self.len]
     }
 
-    // A byte more of the line.
-    pub(crate) fn push(&mut self, byte: u8)
-        ensures { kept self.new ≡ held (kept self.old ++ (byte ∷ [])) }
+    // More bytes of the line.
+    pub(crate) fn push(&mut self, bytes: &[u8])
+        ensures { kept self.new ≡ held (kept self.old ++ bytes.now) }
     {
-        if self.len < KEPT {
-            self.bytes[self.len] = byte;
-            self.len += 1;
-        }
+        let n = bytes.len().min(KEPT - self.len);
+        let end = self.len + n;
+        self.bytes[self.len..end].copy_from_slice(&bytes[..n]);
+        self.len = end;
     }
 
     // The line has ended.

@@ -1,19 +1,37 @@
 // A session: the desk, with what it holds of its input and of its output.
-ghost use Rattle.std.specs.Prelude.{◌≡◌, ℕ, List, [], ◌∷◌, Option, OnOk};
+ghost use Rattle.std.specs.Prelude.{◌≡◌, ℕ, List, Option, OnOk};
 ghost use Rattle.book.specs.Ledgers.{Ledger};
-ghost use Rattle.stream.specs.Held.{Answered, Closed, Flushed, Went, at_first};
+ghost use Rattle.desk.specs.Desks.{standing};
+ghost use Rattle.stream.specs.Held.{Closed, Ended, Flushed, Said, Went, at_first};
 ghost use Rattle.stream.specs.Served.{Finished};
-ghost use Rattle.stream.specs.Sessions.{seen};
+ghost use Rattle.stream.specs.Sessions.{printed, seen};
 
 use crate::pending::Pending;
 use crate::unsent::Unsent;
 use answers::writing::ROOM;
 use book::books::Reusable;
 use desk::desks::Desk;
+use memchr::memchr;
 use std::io;
 use std::io::Write;
 
 const NEWLINE: u8 = b'\n';
+
+// Answers a line, and prints the answer with a newline. Desk and unsent answers are two parameters, so that the line may lie in the
+// session beside them.
+fn say<B: Reusable, W: Write>(
+    desk: &mut Desk,
+    unsent: &mut Unsent,
+    book: &mut B,
+    writer: &mut W,
+    line: &[u8],
+) -> io::Result<()>
+    ensures { OnOk result (Said line.now (standing desk.old (B.Book.meaning book.old)) (printed (W.contents writer.old) unsent.old) (printed (W.contents writer.new) unsent.new) (standing desk.new (B.Book.meaning book.new))) }
+{
+    let mut answer = [NEWLINE; ROOM + 1];
+    let n = desk.respond(book, line, &mut answer).unwrap();
+    unsent.put(writer, &answer[..=n])
+}
 
 #[derive(Drop)]
 pub struct Session {
@@ -33,33 +51,22 @@ impl Session {
         }
     }
 
-    // The line has ended, and is answered.
-    fn answer<B: Reusable, W: Write>(&mut self, book: &mut B, writer: &mut W) -> io::Result<()>
-        ensures { OnOk result (Answered (seen self.old (W.contents writer.old) (B.Book.meaning book.old)) (seen self.new (W.contents writer.new) (B.Book.meaning book.new))) }
-    {
-        let mut answer = [NEWLINE; ROOM + 1];
-        let n = self
-            .desk
-            .respond(book, self.pending.line(), &mut answer)
-            .unwrap();
-        self.unsent.put(writer, &answer[..=n])?;
-        self.pending.clear();
-        Ok(())
-    }
-
-    // Takes a byte of the input.
-    fn take<B: Reusable, W: Write>(
+    // The line ends with these bytes, and is answered. One that stands whole in the piece is not copied.
+    fn end_line<B: Reusable, W: Write>(
         &mut self,
         book: &mut B,
         writer: &mut W,
-        byte: u8,
+        bytes: &[u8],
     ) -> io::Result<()>
-        ensures { OnOk result (Went (seen self.old (W.contents writer.old) (B.Book.meaning book.old)) (byte ∷ []) (seen self.new (W.contents writer.new) (B.Book.meaning book.new))) }
+        ensures { OnOk result (Ended (seen self.old (W.contents writer.old) (B.Book.meaning book.old)) bytes.now (seen self.new (W.contents writer.new) (B.Book.meaning book.new))) }
     {
-        if byte == NEWLINE {
-            return self.answer(book, writer);
+        if self.pending.line().is_empty() {
+            return say(&mut self.desk, &mut self.unsent, book, writer, bytes);
         }
-        self.pending.push(byte);
+        self.pending.push(bytes);
+        let line = self.pending.line();
+        say(&mut self.desk, &mut self.unsent, book, writer, line)?;
+        self.pending.clear();
         Ok(())
     }
 
@@ -72,9 +79,12 @@ impl Session {
     ) -> io::Result<()>
         ensures { OnOk result (Went (seen self.old (W.contents writer.old) (B.Book.meaning book.old)) piece.now (seen self.new (W.contents writer.new) (B.Book.meaning book.new))) }
     {
-        for byte in piece {
-            self.take(book, writer, *byte)?;
+        let mut rest = piece;
+        while let Some(end) = memchr(NEWLINE, rest) {
+            self.end_line(book, writer, &rest[..end])?;
+            rest = &rest[end + 1..];
         }
+        self.pending.push(rest);
         Ok(())
     }
 
@@ -85,7 +95,7 @@ impl Session {
         if self.pending.line().is_empty() {
             return Ok(());
         }
-        self.answer(book, writer)
+        self.end_line(book, writer, &[])
     }
 
     // Hands to the writer all that was printed, and asks it to pass it on.

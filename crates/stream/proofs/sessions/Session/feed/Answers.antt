@@ -1,19 +1,23 @@
-use Rattle.std.proofs.Common.{sym, subst}
-use Rattle.std.proofs.lemmas.List.{take_more}
-use Rattle.stream.specs.Held.{Went}
+use Rattle.std.proofs.Common.{List, ℕ, ◌+◌, sym, subst}
+use Rattle.std.proofs.lemmas.List.{take_rest}
+use Rattle.stream.specs.Held.{View}
 use Rattle.stream.specs.Sessions.{seen}
-use Rattle.stream.proofs.Feeding.{went_join, went_none}
+use Rattle.stream.proofs.Feeding.{Gone, gone_all, gone_line, gone_none}
 use Rattle.stream.proofs.sessions.Session.feed.Goals as goal
 
-pub loop-byte-init : goal.loop-byte-init
-loop-byte-init g c = went_none (seen c.args.self.now (g.W.Write.contents c.args.writer.now) (g.B.Book.meaning c.args.book.now))
+pub loop-end-init : goal.loop-end-init
+loop-end-init g c = gone_none c.args.piece.now (seen c.args.self.now (g.W.Write.contents c.args.writer.now) (g.B.Book.meaning c.args.book.now))
 
-pub loop-byte-preserved : goal.loop-byte-preserved
-loop-byte-preserved g c =
-    let a = seen c.args.self.now (g.W.Write.contents c.args.writer.now) (g.B.Book.meaning c.args.book.now) in
-    let b = seen c.loop-byte.self (g.W.Write.contents c.loop-byte.writer) (g.B.Book.meaning c.loop-byte.book) in
-    let d = seen c.take.new.self (g.W.Write.contents c.take.new.writer) (g.B.Book.meaning c.take.new.book) in
+pub loop-end-preserved : goal.loop-end-preserved
+loop-end-preserved g c =
     let piece = c.args.piece.now in
-    let n = c.loop-byte.byte-index in
-    subst (λ xs. Went a xs d) (sym (take_more piece n 0 c.loop-byte-test.true))
-    (went_join a b d _ _ c.loop-byte.invariant c.in_ok-take.ensures)
+    let rest = c.loop-end.rest.now in
+    let n = c.in-Some.end in
+    let a : View = seen c.args.self.now (g.W.Write.contents c.args.writer.now) (g.B.Book.meaning c.args.book.now) in
+    let b : View = seen c.loop-end.self (g.W.Write.contents c.loop-end.writer) (g.B.Book.meaning c.loop-end.book) in
+    let d : View = seen c.end_line.new.self (g.W.Write.contents c.end_line.new.writer) (g.B.Book.meaning c.end_line.new.book) in
+    subst (λ (xs : List ℕ). Gone piece xs a d) (sym (take_rest rest (n + 1)))
+    (gone_line piece rest n a b d c.in-Some.ensures.0 c.in-Some.ensures.1 c.loop-end.invariant c.in_ok-end_line.ensures)
+
+pub returns : goal.returns
+returns g c = gone_all c.args.piece.now c.loop-end.rest.now _ _ _ _ _ c.in_default.ensures c.loop-end.invariant c.push.ensures
