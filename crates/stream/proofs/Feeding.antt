@@ -94,6 +94,7 @@ closed_none a none = record {
   out = [];
   written = Appends-nil a.printed;
   last = λ line h was. subst (λ ls. Spoken a.standing ls [] a.standing) (sym (ap last_line (nothing_held line (sym was ∙ none)))) (spoken_none a.standing);
+  held = none;
 }
   where
     nothing_held : (line : List ℕ) → held line ≡ [] → line ≡ []
@@ -102,7 +103,7 @@ closed_none a none = record {
 
 -- or within a line
 pub closed_line : (a b : View) → (a.held ≡ [] → ⊥) → Answered a b → Closed a b
-closed_line a b some x = record { out = x.out; written = x.written; last = λ line h was. one line was (x.spoken line was) }
+closed_line a b some x = record { out = x.out; written = x.written; last = λ line h was. one line was (x.spoken line was); held = x.held }
   where
     one : (line : List ℕ) → a.held ≡ held line → Spoken a.standing (line ∷ []) x.out b.standing → Spoken a.standing (last_line line) x.out b.standing
     one [] was h = absurd (some was)

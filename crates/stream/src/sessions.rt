@@ -1,7 +1,7 @@
 // A session: the desk, with what it holds of its input and of its output.
 ghost use Rattle.std.specs.Prelude.{◌≡◌, ℕ, List, [], ◌∷◌, Option, OnOk};
 ghost use Rattle.book.specs.Ledgers.{Ledger};
-ghost use Rattle.stream.specs.Held.{Answered, Closed, Flushed, Went, at_first};
+ghost use Rattle.stream.specs.Held.{Answered, Closed, Flushed, Passed, Went, at_first};
 ghost use Rattle.stream.specs.Served.{Finished};
 ghost use Rattle.stream.specs.Sessions.{seen};
 
@@ -64,7 +64,7 @@ impl Session {
     }
 
     // Takes a piece of the input, however it was cut, and answers the lines that end in it.
-    pub fn feed<B: Reusable, W: Write>(
+    fn feed<B: Reusable, W: Write>(
         &mut self,
         book: &mut B,
         writer: &mut W,
@@ -96,9 +96,22 @@ impl Session {
         writer.flush()
     }
 
+    // The same, and no answer waits: whoever gave the piece has the answers before the next one is asked for.
+    pub fn pass<B: Reusable, W: Write>(
+        &mut self,
+        book: &mut B,
+        writer: &mut W,
+        piece: &[u8],
+    ) -> io::Result<()>
+        ensures { OnOk result (Passed (seen self.old (W.contents writer.old) (B.Book.meaning book.old)) piece.now (W.contents writer.new) (seen self.new (W.contents writer.new) (B.Book.meaning book.new))) }
+    {
+        self.feed(book, writer, piece)?;
+        self.flush(writer)
+    }
+
     // The input has ended.
     pub fn finish<B: Reusable, W: Write>(&mut self, book: &mut B, writer: &mut W) -> io::Result<()>
-        ensures { OnOk result (Finished (seen self.old (W.contents writer.old) (B.Book.meaning book.old)) (W.contents writer.new) (B.Book.meaning book.new)) }
+        ensures { OnOk result (Finished (seen self.old (W.contents writer.old) (B.Book.meaning book.old)) (W.contents writer.new) (seen self.new (W.contents writer.new) (B.Book.meaning book.new))) }
     {
         self.close(book, writer)?;
         self.flush(writer)
