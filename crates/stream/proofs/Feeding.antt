@@ -127,6 +127,7 @@ closed_none a none = record {
   out = [];
   written = Appends-nil a.printed;
   last = λ line h was. subst (λ ls. Spoken a.standing ls [] a.standing) (sym (ap last_line (nothing_held line (sym was ∙ none)))) (spoken_none a.standing);
+  held = none;
 }
 
 -- or within a line
@@ -135,6 +136,7 @@ closed_line a b some x = record {
   out = x.out;
   written = x.written;
   last = λ line h was. one line was (subst (λ (l : List ℕ). Spoken a.standing (l ∷ []) x.out b.standing) (append-nil line) (x.spoken line was));
+  held = x.held;
 }
   where
     one : (line : List ℕ) → a.held ≡ held line → Spoken a.standing (line ∷ []) x.out b.standing → Spoken a.standing (last_line line) x.out b.standing

@@ -6,7 +6,7 @@ use Rattle.std.proofs.lemmas.List.{append-nil}
 use Rattle.std.proofs.lemmas.List.Elements.{All-nil}
 use Rattle.book.specs.Ledgers.{Ledger}
 use Rattle.desk.specs.Desks.{Standing, waiting}
-use Rattle.stream.specs.Held.{Closed, Fed, Flushed, View, Went, at_first}
+use Rattle.stream.specs.Held.{Closed, Fed, Flushed, Passed, View, Went, at_first}
 use Rattle.stream.specs.Inputs.{last_line}
 use Rattle.stream.specs.Served.{Finished, Served}
 use Rattle.stream.specs.Transcripts.{Spoken}
@@ -32,39 +32,42 @@ went_flushed a b c contents piece w f = record {
       (subst (λ hs. Fed a.standing a.held piece w.out b.standing hs) (sym f.held) w.fed);
 }
 
+pub passed : (a b c : View) (contents : Option (List ℕ)) (piece : List ℕ) → Went a piece b → Flushed b contents c → Passed a piece contents c
+passed a b c contents piece w f = record { went = went_flushed a b c contents piece w f; sent = f.printed }
+
 -- one piece more
-pub reached_more : (x y z : Option (List ℕ)) (a b c d : View) (contents : Option (List ℕ)) (piece : List ℕ)
-    → Reached x y a b → Consumes y z piece → Went b piece c → Flushed c contents d → Reached x z a d
-reached_more x y z a b c d contents piece r read went flushed = record {
+pub reached_more : (x y z : Option (List ℕ)) (a b c : View) (piece : List ℕ)
+    → Reached x y a b → Consumes y z piece → Went b piece c → Reached x z a c
+reached_more x y z a b c piece r read went = record {
   input = r.input ++ piece;
   read = Consumes-trans x y z r.input piece r.read read;
-  went = went_join a b d r.input piece r.went (went_flushed b c d contents piece went flushed);
+  went = went_join a b c r.input piece r.went went;
 }
 
 -- the end of the input
-pub served_all : (x y z contents after : Option (List ℕ)) (m k : Ledger) (b : View) (none : List ℕ)
-    → Reached x y (at_first contents m) b → Consumes y z none → none ≡ [] → IsAtEnd z → Finished b after k → Served x contents after m k
-served_all x y z contents after m k b none r read is end f =
+pub served_all : (x y z contents after : Option (List ℕ)) (m : Ledger) (b d : View) (none : List ℕ)
+    → Reached x y (at_first contents m) b → Consumes y z none → none ≡ [] → IsAtEnd z → Finished b after d → Served x contents after m d.standing.book
+served_all x y z contents after m b d none r read is end f =
     let goes = r.went.fed.goes [] (All-nil (λ b. b ≢ 10)) refl in
     let lines = goes.0 in
     let rest = goes.1 in
     record {
       input = r.input;
       out = r.went.out ++ f.out;
-      stands = f.stands;
+      stands = d.standing;
       whole = Consumes-whole x z (r.input ++ none) (λ xs. r.input ≡ xs) (Consumes-trans x y z r.input none r.read read) end (sym (append-nil r.input) ∙ ap (λ ys. r.input ++ ys) (sym is));
       written = Appends-trans contents b.printed after r.went.out f.out r.went.written f.written;
-      spoken = subst (λ ls. Spoken (waiting m) ls (r.went.out ++ f.out) f.stands) (sym (lines_split r.input lines rest goes.2))
-          (spoken_join (waiting m) b.standing f.stands lines (last_line rest) r.went.out f.out goes.3 (f.last rest goes.2.open_end goes.4));
-      book = f.same;
+      spoken = subst (λ ls. Spoken (waiting m) ls (r.went.out ++ f.out) d.standing) (sym (lines_split r.input lines rest goes.2))
+          (spoken_join (waiting m) b.standing d.standing lines (last_line rest) r.went.out f.out goes.3 (f.last rest goes.2.open_end goes.4));
+      book = refl;
     }
 
 -- closed and flushed, a session has finished
-pub finished : (a b c : View) (contents : Option (List ℕ)) (m : Ledger) → Closed a b → Flushed b contents c → m ≡ b.standing.book → Finished a contents m
-finished a b c contents m x f book = record {
+pub finished : (a b c : View) (contents : Option (List ℕ)) → Closed a b → Flushed b contents c → Finished a contents c
+finished a b c contents x f = record {
   out = x.out;
-  stands = b.standing;
   written = Appends-kept a.printed b.printed contents x.out x.written f.sent;
-  last = x.last;
-  same = book;
+  last = λ line h was. subst (Spoken a.standing (last_line line) x.out) (sym f.standing) (x.last line h was);
+  sent = f.printed;
+  held = f.held ∙ x.held;
 }

@@ -41,11 +41,17 @@ pub record Went (a : View) (piece : List ℕ) (b : View) : Type 0 where
   pub written : Appends a.printed b.printed out
   pub fed : Fed a.standing a.held piece out b.standing b.held
 
--- at the end of the input the line that has not ended, if there is one, is answered too
+-- the same, and no answer waits: the writer has all that was printed
+pub record Passed (a : View) (piece : List ℕ) (contents : Option (List ℕ)) (b : View) : Type 0 where
+  pub went : Went a piece b
+  pub sent : Keeps contents b.printed
+
+-- at the end of the input the line that has not ended, if there is one, is answered too, and nothing is held any more
 pub record Closed (a b : View) : Type 0 where
   pub out : List ℕ
   pub written : Appends a.printed b.printed out
   pub last : (line : List ℕ) → Unbroken line → a.held ≡ held line → Spoken a.standing (last_line line) out b.standing
+  pub held : b.held ≡ []
 
 -- flushed, the writer has all that was printed, and nothing else changes
 pub record Flushed (a : View) (contents : Option (List ℕ)) (b : View) : Type 0 where

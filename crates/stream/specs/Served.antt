@@ -1,19 +1,20 @@
 -- A whole input answered.
-use Rattle.std.specs.Prelude.{◌≡◌, ℕ, List, Option, IfSome}
-use Rattle.std.specs.Io.KnownBytes.{Appends}
+use Rattle.std.specs.Prelude.{◌≡◌, ℕ, List, [], Option, IfSome}
+use Rattle.std.specs.Io.KnownBytes.{Appends, Keeps}
 use Rattle.book.specs.Ledgers.{Ledger}
 use Rattle.desk.specs.Desks.{Standing, waiting}
 use Rattle.stream.specs.Held.{View, held}
 use Rattle.stream.specs.Inputs.{Unbroken, last_line, lines_of}
 use Rattle.stream.specs.Transcripts.{Spoken}
 
--- the session has ended: what follows the last newline, if anything, is answered, and the writer has all that was printed
-pub record Finished (a : View) (contents : Option (List ℕ)) (book : Ledger) : Type 0 where
+-- the session has ended: what follows the last newline, if anything, is answered, the writer has all that was printed, and nothing
+-- is held or waits any more
+pub record Finished (a : View) (contents : Option (List ℕ)) (b : View) : Type 0 where
   pub out : List ℕ
-  pub stands : Standing
   pub written : Appends a.printed contents out
-  pub last : (line : List ℕ) → Unbroken line → a.held ≡ held line → Spoken a.standing (last_line line) out stands
-  pub same : book ≡ stands.book
+  pub last : (line : List ℕ) → Unbroken line → a.held ≡ held line → Spoken a.standing (last_line line) out b.standing
+  pub sent : Keeps contents b.printed
+  pub held : b.held ≡ []
 
 -- an input was read to its end, if it is known what there was to read, and the transcript of its lines was written, if it is known
 -- what the writer had; the book that was lent then has what the calls left

@@ -1,7 +1,8 @@
 // A whole input, from the first line to the last.
 #![tactic(auto, using(crate::proofs::Speaking::one_transcript, crate::proofs::Cutting::lines_split, crate::proofs::Cutting::all_split))]
 
-ghost use Rattle.std.specs.Prelude.{◌≡◌, ◌≤◌, take, IfOk, OnOk};
+ghost use Rattle.std.specs.Prelude.{◌≡◌, ◌≢◌, ◌≤◌, take, IfErr, IfOk, OnOk};
+ghost use Rattle.std.specs.IoError.{error_kind};
 ghost use Rattle.std.specs.Io.KnownBytes.{Consumes, IsAtEnd};
 ghost use Rattle.stream.specs.Served.{Served};
 ghost use Rattle.stream.specs.Transcripts.{OneTranscript};
@@ -21,6 +22,7 @@ fn next_piece<R: Read>(input: &mut R, piece: &mut [u8; PIECE]) -> io::Result<usi
     ensures within { IfOk result (λ n. n ≤ 8192) }
     ensures read { IfOk result (λ n. Consumes (R.remaining input.old) (R.remaining input.new) (take n piece.new)) }
     ensures end { IfOk result (λ n. n ≡ 0 → IsAtEnd (R.remaining input.new)) }
+    ensures again { IfErr result (λ e. error_kind e ≢ ErrorKind.Interrupted) }
 {
     for _ in 0..u64::MAX {
         match input.read(piece) {
@@ -32,7 +34,7 @@ fn next_piece<R: Read>(input: &mut R, piece: &mut [u8; PIECE]) -> io::Result<usi
             }
         }
     }
-    Err(ErrorKind::Interrupted.into())
+    Err(ErrorKind::Other.into())
 }
 
 // Answers the lines of an input until it ends. Answers go out before the next piece is read, so that whoever waits for one has it;
@@ -55,8 +57,7 @@ pub fn serve<B: Reusable, R: Read, W: Write>(
         if n == 0 {
             return session.finish(book, output);
         }
-        session.feed(book, output, &piece[..n])?;
-        session.flush(output)?;
+        session.pass(book, output, &piece[..n])?;
     }
     Err(ErrorKind::Other.into())
 }

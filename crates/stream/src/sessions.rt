@@ -2,7 +2,7 @@
 ghost use Rattle.std.specs.Prelude.{◌≡◌, ℕ, List, Option, OnOk};
 ghost use Rattle.book.specs.Ledgers.{Ledger};
 ghost use Rattle.desk.specs.Desks.{standing};
-ghost use Rattle.stream.specs.Held.{Closed, Ended, Flushed, Said, Went, at_first};
+ghost use Rattle.stream.specs.Held.{Closed, Ended, Flushed, Passed, Said, Went, at_first};
 ghost use Rattle.stream.specs.Served.{Finished};
 ghost use Rattle.stream.specs.Sessions.{printed, seen};
 
@@ -70,8 +70,8 @@ impl Session {
         Ok(())
     }
 
-    // Takes a piece of the input, however it was cut, and answers the lines that end in it.
-    pub fn feed<B: Reusable, W: Write>(
+    // Goes through a piece of the input, however it was cut, and answers the lines that end in it.
+    fn feed<B: Reusable, W: Write>(
         &mut self,
         book: &mut B,
         writer: &mut W,
@@ -106,9 +106,22 @@ impl Session {
         writer.flush()
     }
 
+    // Takes a piece of the input and lets no answer wait: whoever gave the piece has the answers before the next one is asked for.
+    pub fn pass<B: Reusable, W: Write>(
+        &mut self,
+        book: &mut B,
+        writer: &mut W,
+        piece: &[u8],
+    ) -> io::Result<()>
+        ensures { OnOk result (Passed (seen self.old (W.contents writer.old) (B.Book.meaning book.old)) piece.now (W.contents writer.new) (seen self.new (W.contents writer.new) (B.Book.meaning book.new))) }
+    {
+        self.feed(book, writer, piece)?;
+        self.flush(writer)
+    }
+
     // The input has ended.
     pub fn finish<B: Reusable, W: Write>(&mut self, book: &mut B, writer: &mut W) -> io::Result<()>
-        ensures { OnOk result (Finished (seen self.old (W.contents writer.old) (B.Book.meaning book.old)) (W.contents writer.new) (B.Book.meaning book.new)) }
+        ensures { OnOk result (Finished (seen self.old (W.contents writer.old) (B.Book.meaning book.old)) (W.contents writer.new) (seen self.new (W.contents writer.new) (B.Book.meaning book.new))) }
     {
         self.close(book, writer)?;
         self.flush(writer)

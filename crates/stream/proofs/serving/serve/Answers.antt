@@ -20,5 +20,4 @@ returns-then-n-eq0-clause-served g c =
 
 pub loop-preserved : goal.loop-preserved
 loop-preserved g c =
-    let m = g.B.Book.meaning c.feed.new.book in
-    reached_more _ _ _ _ _ _ _ _ _ c.loop.invariant c.in_ok-n.ensures.read c.in_ok-feed.ensures (c.in_ok-flush.ensures m)
+    reached_more _ _ _ _ _ _ _ c.loop.invariant c.in_ok-n.ensures.read c.in_ok-pass.ensures.went

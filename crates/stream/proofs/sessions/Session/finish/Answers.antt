@@ -1,4 +1,3 @@
-use Rattle.std.proofs.Common.{refl}
 use Rattle.std.proofs.lemmas.Result.{on_ok_weaker}
 use Rattle.stream.specs.Sessions.{seen}
 use Rattle.stream.proofs.Whole.{finished}
@@ -10,4 +9,4 @@ returns g c =
     let a = seen c.args.self.now (g.W.Write.contents c.args.writer.now) (g.B.Book.meaning c.args.book.now) in
     let b = seen c.close.new.self (g.W.Write.contents c.close.new.writer) m in
     let d = seen c.flush.new.self (g.W.Write.contents c.flush.new.writer) m in
-    on_ok_weaker c.flush.result (λ f. finished a b d (g.W.Write.contents c.flush.new.writer) m c.in_ok-close.ensures (f m) refl) c.flush.ensures
+    on_ok_weaker c.flush.result (λ f. finished a b d (g.W.Write.contents c.flush.new.writer) c.in_ok-close.ensures (f m)) c.flush.ensures
