@@ -26,6 +26,7 @@ enum Style {
     Followers,
 }
 
+// What the plan takes to be listed under a number. A damaged line may be a lawful listing too, and then it is not so.
 #[derive(Clone, Copy)]
 struct Listed {
     family: i64,
@@ -42,6 +43,7 @@ const TICKS: [i64; 12] = [
     1, 2, 5, 7, 10, 10, 50, 100, 5_000, 10_000, 999_999, 1_000_000,
 ];
 
+// Where the prices of a day may lie.
 const LEVELS: [i64; 8] = [
     0,
     0,

@@ -54,8 +54,8 @@ pub(crate) fn lawful(chance: &mut Chance) -> Record {
         return USUAL;
     }
     let night = some_second(chance, 0, LAST_NIGHT);
-    let opening = some_second(chance, FIRST_DAY, 172_797);
-    let afternoon = some_second(chance, opening, 172_798);
+    let opening = some_second(chance, FIRST_DAY, LAST_DAY - 2);
+    let afternoon = some_second(chance, opening, LAST_DAY - 1);
     let earliest = afternoon.max(opening.saturating_add(1)).saturating_add(1);
     let close = some_second(chance, earliest, LAST_DAY);
     let cut = some_second(chance, opening.saturating_add(1), close.saturating_sub(1));
@@ -75,7 +75,7 @@ pub(crate) fn moved(chance: &mut Chance, record: Record) -> Record {
         0 => moved.night = chance.of(&[-1, 0, LAST_NIGHT, FIRST_DAY]),
         1 => moved.opening = chance.of(&[LAST_NIGHT, record.afternoon.saturating_add(1), -1]),
         2 => moved.afternoon = chance.of(&[record.opening.saturating_sub(1), record.close]),
-        3 => moved.close = chance.of(&[record.afternoon, record.cut, LAST_DAY, 172_800]),
+        3 => moved.close = chance.of(&[record.afternoon, record.cut, LAST_DAY, LAST_DAY + 1]),
         _ => moved.cut = chance.of(&[record.opening, record.close]),
     }
     moved
