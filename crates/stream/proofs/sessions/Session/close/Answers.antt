@@ -2,7 +2,7 @@ use Rattle.std.proofs.Common.{◌≡◌, length, sym, ap, ◌∙◌, arith}
 use Rattle.std.proofs.lemmas.Bool.Decides.{nat_tests}
 use Rattle.std.proofs.lemmas.List.{nil_from_length}
 use Rattle.std.proofs.lemmas.Result.{on_ok_weaker}
-use Rattle.stream.specs.Sessions.{kept, seen}
+use Rattle.stream.specs.Sessions.{seen}
 use Rattle.stream.proofs.Feeding.{closed_line, closed_none}
 use Rattle.stream.proofs.sessions.Session.close.Goals as goal
 
