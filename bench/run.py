@@ -6,7 +6,7 @@ same bytes. Outside the gate; one command from the repository's top, after `cd c
 """
 import os
 import random
-import resource
+import re
 import statistics
 import subprocess
 import sys
@@ -70,13 +70,16 @@ def once(program, path, output):
 
 
 def peak(program, path):
-    pid = os.fork()
-    if pid == 0:
-        with open(path, "rb") as f:
-            subprocess.run([program], stdin=f, stdout=subprocess.DEVNULL)
-        print(f"    peak of {os.path.basename(program)}: {resource.getrusage(resource.RUSAGE_CHILDREN).ru_maxrss} KiB", flush=True)
-        os._exit(0)
-    os.waitpid(pid, 0)
+    """Its most resident memory, as /proc tells it while it waits for more input than the file has."""
+    p = subprocess.Popen([program], stdin=subprocess.PIPE, stdout=subprocess.DEVNULL)
+    with open(path, "rb") as f:
+        p.stdin.write(f.read())
+    p.stdin.flush()
+    with open(f"/proc/{p.pid}/status") as f:
+        most = re.search(r"VmHWM:\s+(\d+)", f.read()).group(1)
+    p.stdin.close()
+    p.wait()
+    print(f"    {os.path.basename(program)}: at most {most} KiB resident")
 
 
 def main():
