@@ -13,9 +13,8 @@ import sys
 import tempfile
 
 HERE = os.path.dirname(os.path.abspath(__file__))
-SETTLE = os.path.join(HERE, "..", "crates", "settle", "out", "settle")
 sys.path.insert(0, HERE)
-from run import a_day
+from run import SETTLE, a_day, peak
 
 ANSWER = re.compile(rb"done|listed \d+|price -?\d+ -?\d+ [ALQVTUSPCBD] \d|refused \d+( \d+)?")
 
@@ -64,20 +63,6 @@ def run(name, path, lines):
     return used
 
 
-def peak(path):
-    """Its most resident memory, as /proc tells it while it waits for more input than the file has."""
-    p = subprocess.Popen([SETTLE], stdin=subprocess.PIPE, stdout=subprocess.DEVNULL)
-    with open(path, "rb") as f:
-        while piece := f.read(1 << 20):
-            p.stdin.write(piece)
-    p.stdin.flush()
-    with open(f"/proc/{p.pid}/status") as f:
-        most = re.search(r"VmHWM:\s+(\d+)", f.read()).group(1)
-    p.stdin.close()
-    p.wait()
-    print(f"    at most {most} KiB resident")
-
-
 def main():
     r = random.Random(5)
     with tempfile.TemporaryDirectory() as folder:
@@ -86,13 +71,13 @@ def main():
         with open(path, "wb") as f:
             f.write(b"\n".join(lines) + b"\n")
         run("random and mutated lines", path, len(lines))
-        peak(path)
+        peak(SETTLE, path)
         with open(path, "wb") as f:
             for _ in range(100):
                 f.write(b"x" * 1_000_000)
             f.write(b"\nsettle 0 close\n")
         run("a line of 100 MB, and one after it", path, 2)
-        peak(path)
+        peak(SETTLE, path)
     day = a_day(2000, 10, 8)
     with open("/dev/full", "wb") as full:
         p = subprocess.run([SETTLE], input=day, stdout=full, stderr=subprocess.PIPE)

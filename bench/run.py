@@ -73,7 +73,8 @@ def peak(program, path):
     """Its most resident memory, as /proc tells it while it waits for more input than the file has."""
     p = subprocess.Popen([program], stdin=subprocess.PIPE, stdout=subprocess.DEVNULL)
     with open(path, "rb") as f:
-        p.stdin.write(f.read())
+        while piece := f.read(1 << 20):
+            p.stdin.write(piece)
     p.stdin.flush()
     with open(f"/proc/{p.pid}/status") as f:
         most = re.search(r"VmHWM:\s+(\d+)", f.read()).group(1)
