@@ -39,7 +39,8 @@ impl Board {
 
     // How many bytes a board takes: at most 40 KiB.
     pub fn size() -> usize
-        ensures { result ≤ 40960 }
+        ensures value { result ≡ 33328 }
+        ensures most { result ≤ 40960 }
     {
         size_of::<Board>()
     }
