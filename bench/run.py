@@ -1,6 +1,7 @@
 #!/usr/bin/env python3
 """Measures `settle` against the same program in plain Rust (plain.rs): time as a ratio, peak memory, and that both write the
-same bytes. Outside the gate; one command from the repository's top, after `cd crates/settle && rt run < stdin`:
+same bytes; and what a question costs on a board and on a tape as the day grows (the program `asks`). Outside the gate; one
+command from the repository's top, after `rt run < stdin` in crates/settle and `rt run -- tape 320 64` in crates/asks:
 
     python3 bench/run.py [RUNS]
 """
@@ -15,6 +16,7 @@ import time
 
 HERE = os.path.dirname(os.path.abspath(__file__))
 SETTLE = os.path.join(HERE, "..", "crates", "settle", "out", "settle")
+ASKS = os.path.join(HERE, "..", "crates", "asks", "out", "asks")
 REFERENCES = {2, 4, 8}
 
 
@@ -83,6 +85,28 @@ def peak(program, path):
     print(f"    {os.path.basename(program)}: at most {most} KiB resident")
 
 
+def asking(make, entries, questions, runs):
+    """The best time of a day of so many entries and so many questions."""
+    command = [ASKS, make, str(entries), str(questions)]
+    best = float("inf")
+    for _ in range(runs):
+        begin = time.perf_counter()
+        subprocess.run(command, stdout=subprocess.DEVNULL, check=True)
+        best = min(best, time.perf_counter() - begin)
+    return best
+
+
+def questions(runs):
+    """What a question costs, by the entries of the day: the time of many questions less that of none."""
+    print("a question, in microseconds, by the entries of the day")
+    for make, many in (("board", 200_000), ("tape", 500)):
+        costs = []
+        for entries in (100, 1_000, 10_000, 30_000):
+            taken = asking(make, entries, many, runs) - asking(make, entries, 0, runs)
+            costs.append(f"{entries}: {1e6 * taken / many:.3f}")
+        print(f"    {make}: " + ", ".join(costs))
+
+
 def main():
     runs = int(sys.argv[1]) if len(sys.argv) > 1 else 41
     with tempfile.TemporaryDirectory() as folder:
@@ -110,6 +134,7 @@ def main():
                 print(f"    {what}: settle {1000 * t[SETTLE]:.2f} ms, plain Rust {1000 * t[plain]:.2f} ms, ratio {t[SETTLE] / t[plain]:.2f}")
             peak(SETTLE, path)
             peak(plain, path)
+    questions(min(runs, 5))
 
 
 if __name__ == "__main__":
