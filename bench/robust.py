@@ -1,6 +1,6 @@
 #!/usr/bin/env python3
 """Tries to bring `settle` down: a million random and mutated lines, a line of 100 MB, an output that takes nothing, an output that
-nobody reads, and input byte by byte. It prints what it did, how the program ended and how much memory it had at most.
+nobody reads, input byte by byte, and a user who waits for each answer. It prints what it did, how the program ended and how much memory it had at most.
 Outside the gate; one command from the repository's top, after `cd crates/settle && rt run < stdin`:
 
     python3 bench/robust.py
@@ -100,6 +100,16 @@ def main():
     p.stdin.close()
     assert p.stdout.read() == whole
     print(f"input byte by byte: {len(day)} writes, the same {len(whole)} bytes, status {p.wait()}")
+    p = subprocess.Popen([SETTLE], stdin=subprocess.PIPE, stdout=subprocess.PIPE)
+    lines = day.split(b"\n")[:-1]
+    answers = b""
+    for line in lines:
+        p.stdin.write(line + b"\n")
+        p.stdin.flush()
+        answers += p.stdout.readline()
+    p.stdin.close()
+    assert answers == whole
+    print(f"a user who waits for each answer: {len(lines)} lines, status {p.wait()}")
 
 
 if __name__ == "__main__":
