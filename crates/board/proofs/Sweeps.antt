@@ -1,19 +1,22 @@
 -- An entry goes through the windows of its series, one after the other.
-use Rattle.std.proofs.Common.{◌≡◌, ℕ, ◌+◌, ◌<◌, ◌≢◌, Bool, true, false, cond, ◌&&◌, eqb, ltb, ℤ, pos, refl, sym, ap, ◌∙◌, ⊎_elim, arith}
-use Rattle.std.proofs.lemmas.Bool.{and_from, and_left, cases_Bool, cases_eq, cond-true, cond-false, cond_both, eq-eqb, ne_eqb, lt-ltb}
+use Rattle.std.proofs.Common.{◌≡◌, ℕ, ◌+◌, ◌<◌, ◌≤◌, ◌≢◌, Bool, true, false, cond, ◌&&◌, eqb, ltb, List, get_or, ℤ, pos, negsuc, refl, sym, ap, ◌∙◌, ⊎_elim, arith}
+use Rattle.std.proofs.lemmas.Bool.{and_left, cases_Bool, cases_eq, cond-true, cond-false, cond_both, eq-eqb, eqb-true, ne_eqb, true≢false}
 use Rattle.std.proofs.lemmas.Bool.Decides.{nat_tests}
-use Rattle.book.specs.Figures.{concerns, entered_if, is_series, marked, roomy, sound}
+use Rattle.std.proofs.lemmas.List.{get_or_default}
+use Rattle.std.specs.Int.{FitsUnsignedBits}
+use Rattle.book.specs.Figures.{concerns, entered_if, is_series, marked, marked_in, roomy, sound}
 use Rattle.book.specs.Ledgers.{in_range}
-use Rattle.book.specs.Windows.{holds}
+use Rattle.book.specs.Windows.{edges, holds, nothing, windows}
+use Rattle.book.specs.declared.days.Day.{Day}
 use Rattle.book.specs.declared.entries.Entry.{Entry}
 use Rattle.book.specs.declared.marks.Figures.{Figures}
 use Rattle.board.proofs.Places.{range_bounds}
 
--- figures f, which are g after the windows before m and h after window m
-pub sweep_more : (enter : Figures → Figures) (r a : Bool) (w m : ℕ) (f g h : Figures) → g ≡ cond (r && (a && ltb w m)) (enter f) f → h ≡ cond (r && (a && eqb w m)) (enter g) g → h ≡ cond (r && (a && ltb w (m + 1))) (enter f) f
-sweep_more enter false a w m f g h so_far step = step ∙ so_far
-sweep_more enter true false w m f g h so_far step = step ∙ so_far
-sweep_more enter true true w m f g h so_far step = grind (arith, nat_tests)
+-- figures f, which are g after the windows before m and h after window m, where they enter as every window has them enter
+pub sweep_more : (enter at : Figures → Figures) (r a : Bool) (w m : ℕ) (f g h : Figures) → (w ≡ m → at g ≡ enter g) → g ≡ cond (r && (a && ltb w m)) (enter f) f → h ≡ cond (r && (a && eqb w m)) (at g) g → h ≡ cond (r && (a && ltb w (m + 1))) (enter f) f
+sweep_more enter at false a w m f g h same so_far step = step ∙ so_far
+sweep_more enter at true false w m f g h same so_far step = step ∙ so_far
+sweep_more enter at true true w m f g h same so_far step = grind (arith, nat_tests)
 
 -- an entry for another series leaves figures as they are
 another_series : (s n : ℕ) (x : ℤ × ℤ) (f : Figures) (e : Entry) → e.series ≡ pos n → s ≢ n → entered_if s x f e ≡ f
@@ -22,16 +25,42 @@ another_series s n x f e is other =
     (and_left (concerns s x e) (sound e && roomy f)
     (and_left (is_series s e.series) (holds x e.stamp) (ap (is_series s) is ∙ ne_eqb n s (λ q. other (sym q)))))
 
--- past the last window every record is as it is to be
-pub sweep_all : (s w n m : ℕ) (x : ℤ × ℤ) (e : Entry) (f g : Figures) → e.series ≡ pos n → 13 < m → g ≡ cond (in_range s w && (eqb s n && ltb w m)) (entered_if s x f e) f → g ≡ cond (in_range s w) (entered_if s x f e) f
-sweep_all s w n m x e f g is past swept =
-    swept ∙ ⊎_elim inside (λ r. cond-false (in_range s w && (eqb s n && ltb w m)) _ f (and_left (in_range s w) _ r) ∙ sym (cond-false (in_range s w) _ f r)) (cases_Bool (in_range s w))
+-- an entry of the series that is within the limits of any day enters as a sound one does
+own_series : (s n : ℕ) (x : ℤ × ℤ) (f : Figures) (e : Entry) → sound e ≡ true → e.series ≡ pos n → s ≡ n → entered_if s x f e ≡ marked_in x f e
+own_series s n x f e within is same =
+    ap (λ b. cond ((b && holds x e.stamp) && (sound e && roomy f)) (marked e.kind e.stamp f) f) (ap (is_series s) is ∙ eq-eqb n s (sym same))
+    ∙ ap (λ b. cond (holds x e.stamp && (b && roomy f)) (marked e.kind e.stamp f) f) within
+
+-- where the records of the entry's series have it as a sound one, every record is as it is to be
+pub all_series : (s w n : ℕ) (x : ℤ × ℤ) (e e' : Entry) (f g : Figures) → e' ≡ e → sound e' ≡ true → e.series ≡ pos n → g ≡ cond (in_range s w && eqb s n) (marked_in x f e') f → g ≡ cond (in_range s w) (entered_if s x f e) f
+all_series s w n x e e' f g whole within is marked =
+    marked
+    ∙ cond_both (in_range s w) (entered_if s x f e) f (λ k. cond (in_range s w && eqb s n) (marked_in x f e') f ≡ k)
+    (λ r. ap (λ b. cond (b && eqb s n) (marked_in x f e') f) r ∙ inside)
+    (λ r. cond-false (in_range s w && eqb s n) (marked_in x f e') f (and_left (in_range s w) (eqb s n) r))
   where
-    inside : in_range s w ≡ true → cond (in_range s w && (eqb s n && ltb w m)) (entered_if s x f e) f ≡ cond (in_range s w) (entered_if s x f e) f
-    inside r =
-        let last = (range_bounds s w r).1.1 in
+    inside : cond (eqb s n) (marked_in x f e') f ≡ entered_if s x f e
+    inside =
         ⊎_elim
-        (λ p. cond-true _ (entered_if s x f e) f (and_from (in_range s w) _ r (and_from (eqb s n) (ltb w m) (eq-eqb s n p) (lt-ltb w m (omega arith)))))
-        (λ p. cond_both _ (entered_if s x f e) f (λ k. k ≡ entered_if s x f e) (λ b. refl) (λ b. sym (another_series s n x f e is p)))
+        (λ p. cond-true (eqb s n) (marked_in x f e') f (eq-eqb s n p) ∙ ap (marked_in x f) whole ∙ sym (own_series s n x f e (ap sound (sym whole) ∙ within) is p))
+        (λ p. cond-false (eqb s n) (marked_in x f e') f (ne_eqb s n p) ∙ sym (another_series s n x f e is p))
         (cases_eq s n)
-        ∙ sym (cond-true (in_range s w) (entered_if s x f e) f r)
+
+named_fits : (s : ℕ) (z : ℤ) → is_series s z ≡ true → s ≤ 31 → FitsUnsignedBits 8 z
+named_fits s (pos n) named few = let same = eqb-true n s named in omega arith
+named_fits s (negsuc n) named few = absurd (true≢false (sym named))
+
+-- an entry for a number that names no series enters nowhere
+pub no_series : (s w : ℕ) (x : ℤ × ℤ) (f : Figures) (e : Entry) → (FitsUnsignedBits 8 e.series → ⊥) → f ≡ cond (in_range s w) (entered_if s x f e) f
+no_series s w x f e none =
+    cond_both (in_range s w) (entered_if s x f e) f (λ k. f ≡ k)
+    (λ r. sym (cond-false (concerns s x e && (sound e && roomy f)) (marked e.kind e.stamp f) f
+    (and_left (concerns s x e) (sound e && roomy f) (and_left (is_series s e.series) (holds x e.stamp)
+    (⊎_elim (λ named. absurd (none (named_fits s e.series named (range_bounds s w r).0))) (λ b. b) (cases_Bool (is_series s e.series)))))))
+    (λ r. refl)
+
+-- what is read off the list of the day's windows are the edges
+pub listed_edges : (d : Day) (xs : List (ℤ × ℤ)) (i w m : ℕ) (z : ℤ × ℤ) → xs ≡ windows d → i ≡ m → w ≡ m → m ≤ 13 → get_or xs i z ≡ edges d w
+listed_edges d xs i w m z is at same few =
+    let inside : w < 14 = omega arith in
+    ap (λ ys. get_or ys i z) is ∙ ap (λ k. get_or (windows d) k z) (at ∙ sym same) ∙ get_or_default (windows d) w z nothing inside

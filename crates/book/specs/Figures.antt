@@ -113,6 +113,10 @@ stamp_small t = holds (pos 0, pos 172799) t
 abbrev pub sound : Entry → Bool
 sound e = stamp_small e.stamp && kind_lawful e.kind
 
+-- a sound entry of the series enters where the window holds its stamp and the sums have room; else the figures stay
+abbrev pub marked_in : ℤ × ℤ → Figures → Entry → Figures
+marked_in x f e = cond (holds x e.stamp && roomy f) (marked e.kind e.stamp f) f
+
 -- the same as `entered_in`, where the entry is sound and the sums have room; else the figures stay
 abbrev pub entered_if : ℕ → ℤ × ℤ → Figures → Entry → Figures
 entered_if s x f e = cond (concerns s x e && (sound e && roomy f)) (marked e.kind e.stamp f) f

@@ -1,7 +1,7 @@
 // The figures of one series and window.
-ghost use Rattle.std.specs.Prelude.{◌≡◌, ◌≤◌, true, ◌*ℤ◌, unsigned_abs};
+ghost use Rattle.std.specs.Prelude.{◌≡◌, ◌≤◌, true, false, ◌*ℤ◌, MatchOption, unsigned_abs};
 ghost use Rattle.book.specs.Entries.{kind_lawful, lots_lawful, price_lawful, side_lawful};
-ghost use Rattle.book.specs.Figures.{Small, concerns, empty, entered_if, latest, marked, roomy, settled, sound, stamp_small, traded, values};
+ghost use Rattle.book.specs.Figures.{Small, empty, entered_if, latest, marked, marked_in, roomy, settled, sound, stamp_small, traded, values};
 
 use crate::entries::{Entry, Kind, is_kind_lawful};
 use crate::lawful::DAY_END;
@@ -100,19 +100,24 @@ impl Deal {
     }
 }
 
-// Whether an entry is for a series and its stamp lies in a window with these edges.
-fn concerns(e: &Entry, series: u8, edges: (i64, i64)) -> bool
-    ensures { result ≡ concerns series edges e.now }
-{
-    let (first, last) = edges;
-    e.series == i64::from(series) && (first..=last).contains(&e.stamp)
+// An entry whose stamp and numbers are within the limits of any day.
+#[derive(Clone, Copy)]
+pub struct SoundEntry {
+    entry: Entry,
+    ghost sound: { sound entry ≡ true },
 }
 
-// Whether the stamp and the numbers of an entry are within the limits of any day.
-fn is_sound(e: &Entry) -> bool
-    ensures { result ≡ sound e.now }
-{
-    (0..=DAY_END).contains(&e.stamp) && is_kind_lawful(e.kind)
+impl SoundEntry {
+    // The entry, if it is within the limits.
+    pub fn new(entry: &Entry) -> Option<SoundEntry>
+        ensures { MatchOption result (sound entry.now ≡ false) (λ s. s.entry ≡ entry.now) }
+    {
+        let sound = (0..=DAY_END).contains(&entry.stamp) && is_kind_lawful(entry.kind);
+        if !sound {
+            return None;
+        }
+        Some(SoundEntry { entry: *entry })
+    }
 }
 
 impl Figures {
@@ -182,13 +187,26 @@ impl Figures {
         self.lots.unsigned_abs() <= MOST_LOTS && self.money.unsigned_abs() <= MOST_MONEY
     }
 
+    // A sound entry of the series enters the figures of a window with these edges, if the window holds its stamp. An entry for
+    // which the sums have no room changes nothing.
+    pub fn mark_in(&mut self, e: &SoundEntry, edges: (i64, i64))
+        ensures { self.new ≡ marked_in edges self.old e.now.entry }
+    {
+        let (first, last) = edges;
+        if (first..=last).contains(&e.entry.stamp) && self.has_room() {
+            self.enter(&e.entry);
+        }
+    }
+
     // An entry enters the figures of a series and of a window with these edges, if it is for them. An entry beyond the
     // limits of any day, or one for which the sums have no room, changes nothing.
     pub fn enter_in(&mut self, e: &Entry, series: u8, edges: (i64, i64))
         ensures { self.new ≡ entered_if series edges self.old e.now }
     {
-        if concerns(e, series, edges) && is_sound(e) && self.has_room() {
-            self.enter(e);
+        if e.series == i64::from(series) {
+            if let Some(sound) = SoundEntry::new(e) {
+                self.mark_in(&sound, edges);
+            }
         }
     }
 }

@@ -1,0 +1,20 @@
+use Rattle.std.proofs.Common.{◌≤◌, eqb, ap, get_or, pos, arith}
+use Rattle.book.specs.Figures.{marked_in}
+use Rattle.book.specs.Ledgers.{in_range}
+use Rattle.book.specs.Windows.{edges}
+use Rattle.board.specs.Cells.{cell}
+use Rattle.board.proofs.Sweeps.{listed_edges, sweep_more}
+use Rattle.board.proofs.tables.Table.mark_all.Goals as goal
+
+pub loop-window-preserved : goal.loop-window-preserved
+loop-window-preserved c s w =
+    let e = c.args.e.now.entry in
+    let f = cell c.loop-window.self.cells s w in
+    let xs = c.windows-windows.result in
+    let i = c.from.result in
+    let m = c.loop-window.window in
+    let few : m ≤ 13 = omega arith in
+    sweep_more (λ k. marked_in (edges c.args.day.now w) k e) (λ k. marked_in (get_or xs i (pos 0, pos 0)) k e) (in_range s w) (eqb s c.args.series) w m
+    (cell c.args.self.now.cells s w) f (cell c.mark_at.new.self.cells s w)
+    (λ is. ap (λ x. marked_in x f e) (listed_edges c.args.day.now xs i w m (pos 0, pos 0) c.windows-windows.ensures c.from.ensures is few))
+    (c.loop-window.invariant s w) (c.mark_at.ensures s w)
