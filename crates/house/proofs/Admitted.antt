@@ -1,6 +1,7 @@
 -- What holds of terms that were found lawful.
 use Rattle.std.proofs.Common.{◌≡◌, ℕ, Bool, true, ◌&&◌, ltb, ℤ, pos, negsuc, nat_abs, Some, None, Ok, Err, Option, Result, sym, refl, ap, ◌∙◌}
 use lib.Signed.{le_z, lt_z}
+use Rattle.std.specs.Result.{IfOk}
 use Rattle.std.proofs.lemmas.Bool.{and_from, and_parts, cond_both, true≢false}
 use Rattle.rows.specs.Families.{family_of}
 use Rattle.rows.specs.declared.families.Family.{Family}
@@ -26,33 +27,28 @@ kept_lawful f n t h =
     let same = kept_reference f n t.reference (and_parts _ _ h).0 in
     and_from _ _ (ap (λ r. lawful_terms f n r t.settlement t.spread) same ∙ h) refl
 
--- the terms found, if any, are lawful for the series numbered n
-abbrev Lawfully : ℕ → Result Terms HouseFault → Type 0
-Lawfully n (Ok terms) = lawful_series n (new_series terms) ≡ true
-Lawfully n (Err f) = Unit {0}
+-- what holds of the terms of every lawful listing that there is room for, holds of the terms under which a series is listed
+pub listed_have : (Q : Terms → Type 0) (ladders : ℕ) (t : Listing) (s : State) → ((f : Family) → ltb s.roll.count 32 ≡ true → (is_ladder ladders t.ladder && lawful_terms f s.roll.count t.reference t.settlement t.spread) ≡ true → Q (terms_of f t)) → IfOk (listed_terms ladders t s) Q
+listed_have Q ladders t s each =
+    let n = s.roll.count in
+    let found = checked n ladders t in
+    cond_both (is_listing s.phase) (demand (ltb n 32) SeriesFull found) (Err WrongPhase) (λ r. IfOk r Q)
+    (λ _. cond_both (ltb n 32) found (Err SeriesFull) (λ r. IfOk r Q) (by (family_of t.family)) (λ _. tt))
+    (λ _. tt)
+  where
+    by : (o : Option Family) → ltb s.roll.count 32 ≡ true → IfOk (checked_for o s.roll.count ladders t) Q
+    by None room = tt
+    by (Some f) room =
+        cond_both (is_ladder ladders t.ladder && lawful_terms f s.roll.count t.reference t.settlement t.spread) (Ok (terms_of f t)) (Err TermsNotLawful) (λ r. IfOk r Q)
+        (each f room)
+        (λ _. tt)
 
-checked_lawful : (o : Option Family) (n ladders : ℕ) (t : Listing) → Lawfully n (checked_for o n ladders t)
-checked_lawful None n ladders t = tt
-checked_lawful (Some f) n ladders t =
-    let lawful = lawful_terms f n t.reference t.settlement t.spread in
-    cond_both (is_ladder ladders t.ladder && lawful) (Ok (terms_of f t)) (Err TermsNotLawful) (Lawfully n)
-    (λ h. kept_lawful f n t (and_parts (is_ladder ladders t.ladder) lawful h).1)
-    (λ h. tt)
-
--- and find a place
+-- the terms found, if any, are lawful for the series numbered n, and there is room for it
 abbrev pub Admitted : ℕ → Result Terms HouseFault → Type 0
-Admitted n (Ok terms) = (ltb n 32 ≡ true) × (lawful_series n (new_series terms) ≡ true)
-Admitted n (Err f) = Unit {0}
-
-placed_lawful : (n : ℕ) (r : Result Terms HouseFault) → ltb n 32 ≡ true → Lawfully n r → Admitted n r
-placed_lawful n (Ok terms) room h = (room, h)
-placed_lawful n (Err f) room h = tt
+Admitted n r = IfOk r (λ (terms : Terms). (ltb n 32 ≡ true) × (lawful_series n (new_series terms) ≡ true))
 
 pub listed_lawful : (ladders : ℕ) (t : Listing) (s : State) → Admitted s.roll.count (listed_terms ladders t s)
 listed_lawful ladders t s =
     let n = s.roll.count in
-    let found = checked n ladders t in
-    let here = demand (ltb n 32) SeriesFull found in
-    cond_both (is_listing s.phase) here (Err WrongPhase) (Admitted n)
-    (λ _. cond_both (ltb n 32) found (Err SeriesFull) (Admitted n) (λ room. placed_lawful n found room (checked_lawful (family_of t.family) n ladders t)) (λ _. tt))
-    (λ _. tt)
+    listed_have (λ (terms : Terms). (ltb n 32 ≡ true) × (lawful_series n (new_series terms) ≡ true)) ladders t s
+    (λ f room h. (room, kept_lawful f n t (and_parts (is_ladder ladders t.ladder) (lawful_terms f n t.reference t.settlement t.spread) h).1))

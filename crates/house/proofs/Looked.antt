@@ -1,5 +1,5 @@
 -- What the steps find, and how far it reaches.
-use Rattle.std.proofs.Common.{◌≡◌, ℕ, ◌+◌, ◌≤◌, Bool, true, false, cond, ℤ, pos, negsuc, ◌+ℤ◌, ◌-ℤ◌, ◌*ℤ◌, nat_abs, ◌≤ℤ◌, Some, None, Ok, Option, sym, refl, ap, ◌∙◌, arith, MatchOption}
+use Rattle.std.proofs.Common.{◌≡◌, ℕ, ◌+◌, ◌≤◌, Bool, true, cond, ℤ, pos, negsuc, ◌+ℤ◌, ◌-ℤ◌, ◌*ℤ◌, nat_abs, ◌≤ℤ◌, Some, None, Ok, Option, sym, refl, ap, ◌∙◌, arith}
 use lib.Signed.{le_z}
 use Rattle.std.proofs.lemmas.Int.{ints}
 use Rattle.std.proofs.lemmas.Bool.{and_parts, cond_both, cond-false, cond-true}
@@ -11,7 +11,7 @@ use Rattle.book.proofs.Growth.{parts}
 use Rattle.book.proofs.Limits.{price_bound}
 use Rattle.ladders.specs.Fractions.{ceiling, floor, inside}
 use Rattle.ladders.specs.Prices.{within}
-use Rattle.ladders.specs.Rounding.{Above, Near}
+use Rattle.ladders.specs.Rounding.{Above, AnswersWhere, Near}
 use Rattle.ladders.specs.Values.{above_of, below_of, nearest_of, nearest_price}
 use Rattle.ladders.specs.Orders.{within_range}
 use Rattle.ladders.proofs.Nearest.{above_of_is, above_value, below_of_is, ceiling_within, floor_within}
@@ -26,7 +26,7 @@ use Rattle.house.specs.declared.series.Ruling as rulings
 use Rattle.house.specs.declared.series.Series.{Series}
 
 -- above as a value
-pub above_found : (P : ℤ → Bool) → ((z : ℤ) → Near P z) → (v : ℤ) (r : Option ℤ) → MatchOption r (within v ≡ false) (λ p. (within v ≡ true) × Above P v p) → r ≡ cond (within v) (Some (above_of P v)) None
+pub above_found : (P : ℤ → Bool) → ((z : ℤ) → Near P z) → (v : ℤ) (r : Option ℤ) → AnswersWhere (within v) (Above P v) r → r ≡ cond (within v) (Some (above_of P v)) None
 above_found P near v None h = sym (cond-false (within v) (Some (above_of P v)) None h)
 above_found P near v (Some p) h = ap Some (above_value P near v p h.1) ∙ sym (cond-true (within v) (Some (above_of P v)) None h.0)
 
@@ -58,8 +58,9 @@ within_reach : (n : ℕ) (v : Option ℤ) → side_lawful v ≡ true → InReach
 within_reach n None h = tt
 within_reach n (Some v) h = price_reach n v h
 
-far : (z : ℤ) (n : ℕ) → negsuc 1000999999 ≤ℤ z → z ≤ℤ pos 1001000000 → nat_abs z ≤ reach n
-far z n low high = omega (arith, ints)
+-- a number less than a tick past the price limit is in reach
+past_the_limit : (z : ℤ) (n : ℕ) → negsuc 1000999999 ≤ℤ z → z ≤ℤ pos 1001000000 → nat_abs z ≤ reach n
+past_the_limit z n low high = omega (arith, ints)
 
 -- rounding passes a price within the limit by less than a tick
 above_reach : (P : ℤ → Bool) → ((z : ℤ) → Near P z) → (n : ℕ) (v : ℤ) → within v ≡ true → nat_abs (above_of P v) ≤ reach n
@@ -72,7 +73,7 @@ above_reach P near n v e =
     let low = is.reaches in
     let from = range.0 in
     let up = range.1 in
-    far (above_of P v) n (omega (arith, ints)) (omega (arith, ints))
+    past_the_limit (above_of P v) n (omega (arith, ints)) (omega (arith, ints))
 
 below_reach : (P : ℤ → Bool) → ((z : ℤ) → Near P z) → (n : ℕ) (v : ℤ) → within v ≡ true → nat_abs (below_of P v) ≤ reach n
 below_reach P near n v e =
@@ -85,7 +86,7 @@ below_reach P near n v e =
     let high = is.reaches in
     let low = range.0 in
     let up = range.1 in
-    far (below_of P v) n (omega (arith, ints)) (omega (arith, ints))
+    past_the_limit (below_of P v) n (omega (arith, ints)) (omega (arith, ints))
 
 nearest_reach : (P : ℤ → Bool) → ((z : ℤ) → Near P z) → (n : ℕ) (num : ℤ) (d : ℕ) → InReach n (nearest_price P num d)
 unfolding nearest_of

@@ -1,6 +1,7 @@
 -- The listed series by their numbers.
-use Rattle.std.specs.Prelude.{ℕ, ◌+◌, ◌<◌, Bool, cond, ◌&&◌, List, ℤ, pos, ◌==◌, int_le, int_lt, slice_index_or}
+use Rattle.std.specs.Prelude.{ℕ, ◌+◌, ◌<◌, Bool, cond, List, ℤ, ◌==◌, slice_index_or}
 use Rattle.house.specs.Series.{blank, new_series}
+use Rattle.house.specs.Terms.{is_under}
 use Rattle.house.specs.declared.series.Series.{Series}
 use Rattle.house.specs.declared.terms.Terms.{Terms}
 
@@ -22,7 +23,7 @@ none_listed = record { count = 0; series = λ n. blank }
 
 -- whether a number is that of a listed series
 abbrev pub is_listed : ℕ → ℤ → Bool
-is_listed count n = int_le (pos 0) n && int_lt n (pos count)
+is_listed count n = is_under count n
 
 -- one series stands at a number, and all else as it was
 abbrev pub placed : ℕ → Series → (ℕ → Series) → ℕ → Series

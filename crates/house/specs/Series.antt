@@ -1,6 +1,7 @@
 -- A series as the house keeps it: terms and supplied values.
 use Rattle.std.specs.Prelude.{ℕ, Bool, true, false, ◌&&◌, ℤ, pos, Some, None, Option}
 use Rattle.book.specs.Entries.{price_lawful, side_lawful}
+use Rattle.rows.specs.declared.families.Family.{Family}
 use Rattle.rows.specs.declared.families.Family.TheVariants.{LongBond}
 use Rattle.house.specs.Terms.{lawful_terms}
 use Rattle.house.specs.declared.series.Ruling.{Ruling}
@@ -11,16 +12,20 @@ use Rattle.house.specs.declared.terms.Terms.{Terms}
 abbrev pub new_series : Terms → Series
 new_series t = record { terms = t; theory = None; ruling = None }
 
--- what stands for a number that no listed series has
-abbrev pub blank : Series
-blank = new_series (record {
-  family = LongBond;
+-- the terms of a family with a reference or none, and nothing else
+abbrev pub bare_terms : Family → Option ℕ → Terms
+bare_terms f reference = record {
+  family = f;
   ladder = 0;
-  reference = None;
+  reference = reference;
   settlement = None;
   spread = None;
   marks = record { last_day = false; quarter_end = false };
-})
+}
+
+-- what stands for a number that no listed series has
+abbrev pub blank : Series
+blank = new_series (bare_terms LongBond None)
 
 abbrev pub integer_if : Option ℕ → Option ℤ
 integer_if None = None

@@ -20,10 +20,14 @@ may_refer f = must_refer f || number f == 13
 abbrev pub follows : Family → Bool
 follows f = number f == 2
 
+-- one of so many that are numbered from 0
+abbrev pub is_under : ℕ → ℤ → Bool
+is_under count n = int_le (pos 0) n && int_lt n (pos count)
+
 -- the reference of the series numbered n is an earlier series
 abbrev pub lawful_reference : Family → ℕ → Option ℤ → Bool
 lawful_reference f n None = not (must_refer f)
-lawful_reference f n (Some r) = may_refer f && (int_le (pos 0) r && int_lt r (pos n))
+lawful_reference f n (Some r) = may_refer f && is_under n r
 
 abbrev pub lawful_spread : Family → Option ℤ → Bool
 lawful_spread f None = true
@@ -33,9 +37,8 @@ lawful_spread f (Some v) = follows f && spread_lawful v
 abbrev pub lawful_terms : Family → ℕ → Option ℤ → Option ℤ → Option ℤ → Bool
 lawful_terms f n reference settlement spread = lawful_reference f n reference && (side_lawful settlement && lawful_spread f spread)
 
--- one of so many ladders, numbered from 0
 abbrev pub is_ladder : ℕ → ℤ → Bool
-is_ladder ladders l = int_le (pos 0) l && int_lt l (pos ladders)
+is_ladder ladders l = is_under ladders l
 
 -- a checked number as it is kept
 abbrev pub natural_if : Option ℤ → Option ℕ

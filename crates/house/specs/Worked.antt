@@ -1,5 +1,5 @@
 -- The worked prices: what a step finds, and the refusal of a chain without evidence.
-use Rattle.std.specs.Prelude.{◌≡◌, ℕ, false, [], ◌∷◌, pos, Some, None, Option}
+use Rattle.std.specs.Prelude.{◌≡◌, ℕ, [], ◌∷◌, pos, Some, None, Option}
 use Rattle.book.specs.Figures.{empty, values}
 use Rattle.book.specs.declared.marks.Values.{Values}
 use Rattle.ladders.specs.Multiples.{multiple}
@@ -8,7 +8,7 @@ use Rattle.rows.specs.declared.families.Family.TheVariants.{LongBond, FollowingB
 use Rattle.rows.specs.declared.places.Edition.TheVariants.{Close}
 use Rattle.house.specs.Answers.{Answer, settled}
 use Rattle.house.specs.Found.{Station, finds}
-use Rattle.house.specs.Series.{blank, new_series}
+use Rattle.house.specs.Series.{bare_terms, blank, new_series}
 use Rattle.house.specs.declared.series.Series.{Series}
 use Rattle.house.specs.declared.worked.WorkedPrice.{WorkedPrice}
 
@@ -31,18 +31,7 @@ Holds w = finds (multiple w.tick) w.reference (with_theory_only w) (with_figures
 
 -- a series of a family with a reference, and nothing else
 abbrev pub bare : ℕ → Family → Option ℕ → Station
-bare n f reference = record {
-  number = n;
-  series = new_series (record {
-    family = f;
-    ladder = 0;
-    reference = reference;
-    settlement = None;
-    spread = None;
-    marks = record { last_day = false; quarter_end = false };
-  });
-  figures = λ w. values empty;
-}
+bare n f reference = record { number = n; series = new_series (bare_terms f reference); figures = λ w. values empty }
 
 -- family 8 on family 2 on family 1, at the close, on ticks of 10
 abbrev pub bare_chain : Answer

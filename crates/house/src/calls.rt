@@ -109,7 +109,7 @@ impl<L: LadderSet> House<L> {
     }
 
     // A side of a quote is on its ladder, or is missing.
-    fn is_side_lawful(&self, ladder: u8, side: Option<i64>) -> bool
+    fn is_side_on_ladder(&self, ladder: u8, side: Option<i64>) -> bool
         ensures { result ≡ side_on_ladder (L.lawful self.now.set ladder) side }
     {
         side.is_none_or(|price| is_lawful(&self.set, ladder, price))
@@ -127,7 +127,7 @@ impl<L: LadderSet> House<L> {
             Kind::Leg { price, .. } => is_lawful(&self.set, ladder, price),
             Kind::Spread { .. } => true,
             Kind::Quote { bid, ask } => {
-                self.is_side_lawful(ladder, bid) && self.is_side_lawful(ladder, ask)
+                self.is_side_on_ladder(ladder, bid) && self.is_side_on_ladder(ladder, ask)
             }
         }
     }

@@ -1,7 +1,7 @@
 // What is agreed of a series when it is listed.
 ghost use Rattle.std.specs.Prelude.{◌≡◌, ◌&&◌, if◌then◌else◌, Some, None, Ok, Err, unsigned_abs};
 ghost use Rattle.book.specs.Entries.{side_lawful};
-ghost use Rattle.house.specs.Terms.{checked, follows, is_ladder, lawful_reference, lawful_spread, may_refer, must_refer, natural_if};
+ghost use Rattle.house.specs.Terms.{checked, follows, is_under, lawful_reference, lawful_spread, may_refer, must_refer, natural_if};
 ghost use Rattle.house.specs.declared.faults.HouseFault.TheVariants.{TermsNotLawful};
 
 use crate::faults::HouseFault;
@@ -58,7 +58,7 @@ pub(crate) fn follows(family: Family) -> bool
 
 // A number in 8 bits, if it is one of so many that are numbered from 0.
 pub(crate) fn number_under(v: i64, count: u8) -> Option<u8>
-    ensures { result ≡ (if is_ladder count v then Some (unsigned_abs v) else None) }
+    ensures { result ≡ (if is_under count v then Some (unsigned_abs v) else None) }
 {
     u8::try_from(v).ok().filter(|n| *n < count)
 }

@@ -109,8 +109,8 @@ times_once : (a b : ℤ) (d : ℕ) → 0 < d → (a *ℤ pos d) ≤ℤ (b *ℤ p
 times_once a b d h l = by_lt_z b a (λ u. let apart = times_apart b a d u in absurd (omega (arith, ints))) (λ u. u)
 
 -- a lawful price is not over the lawful price below a fraction, or not under the one above it
-far : {X : Type 0} (P : ℤ → Bool) (n : ℤ) (d : ℕ) (low high : ℤ) → 0 < d → Below P (floor n d) low → Above P (ceiling n d) high → (q : ℤ) → P q ≡ true → (q ≤ℤ low → (q *ℤ pos d) ≤ℤ (low *ℤ pos d) → X) → (high ≤ℤ q → (high *ℤ pos d) ≤ℤ (q *ℤ pos d) → X) → X
-far P n d low high h b a q m small large =
+on_either_side : {X : Type 0} (P : ℤ → Bool) (n : ℤ) (d : ℕ) (low high : ℤ) → 0 < d → Below P (floor n d) low → Above P (ceiling n d) high → (q : ℤ) → P q ≡ true → (q ≤ℤ low → (q *ℤ pos d) ≤ℤ (low *ℤ pos d) → X) → (high ≤ℤ q → (high *ℤ pos d) ≤ℤ (q *ℤ pos d) → X) → X
+on_either_side P n d low high h b a q m small large =
     floor_or_ceiling n d q h
     (λ l. let s = b.greatest q m l in small s (times_rises q low d s))
     (λ l. let s = a.least q m l in large s (times_rises high q d s))
@@ -155,10 +155,10 @@ closer_is_nearest P n d low high h b a =
     let t : (H -ℤ n) ≤ℤ (n -ℤ L) = grind (arith, ints) in
     record {
       on = a.on;
-      closest = λ q m. far P n d low high h b a q m
+      closest = λ q m. on_either_side P n d low high h b a q m
           (λ s l. let o = under_by (q *ℤ pos d) n (omega (arith, ints)) in omega (arith, ints))
           (λ s l. let o = over_by (q *ℤ pos d) n (omega (arith, ints)) in omega (arith, ints));
-      larger = λ q m same. far P n d low high h b a q m
+      larger = λ q m same. on_either_side P n d low high h b a q m
           (λ s l. times_once q high d h (omega (arith, ints)))
           (λ s l. let o = over_by (q *ℤ pos d) n (omega (arith, ints)) in times_once q high d h (omega (arith, ints)));
     })
@@ -166,10 +166,10 @@ closer_is_nearest P n d low high h b a =
     let t : (n -ℤ L) <ℤ (H -ℤ n) = grind (arith, ints) in
     record {
       on = b.on;
-      closest = λ q m. far P n d low high h b a q m
+      closest = λ q m. on_either_side P n d low high h b a q m
           (λ s l. let o = under_by (q *ℤ pos d) n (omega (arith, ints)) in omega (arith, ints))
           (λ s l. let o = over_by (q *ℤ pos d) n (omega (arith, ints)) in omega (arith, ints));
-      larger = λ q m same. far P n d low high h b a q m
+      larger = λ q m same. on_either_side P n d low high h b a q m
           (λ s l. s)
           (λ s l. let o = over_by (q *ℤ pos d) n (omega (arith, ints)) in absurd (omega (arith, ints)));
     })
@@ -177,8 +177,8 @@ closer_is_nearest P n d low high h b a =
 -- ---- nearest rises with the fraction
 
 -- n lies at or over the middle of x and y where y is at least as close, and under it where x is closer
-middle : (x y n : ℤ) → x <ℤ y → nat_abs (y -ℤ n) ≤ nat_abs (x -ℤ n) → (x +ℤ y) ≤ℤ (n +ℤ n)
-middle x y n l h =
+over_middle : (x y n : ℤ) → x <ℤ y → nat_abs (y -ℤ n) ≤ nat_abs (x -ℤ n) → (x +ℤ y) ≤ℤ (n +ℤ n)
+over_middle x y n l h =
     by_lt_z n x
     (λ u. let a = over_by x n (omega (arith, ints)) in let b = over_by y n (omega (arith, ints)) in absurd (omega (arith, ints)))
     (λ u. by_lt_z n y
@@ -200,7 +200,7 @@ nearest_rises P Q same n m d e p q some_d some_e a b h = by_lt_z q p (λ l. absu
     never l =
         let x = times_apart q p d l in
         let y = times_apart q p e l in
-        let up = middle (q *ℤ pos d) (p *ℤ pos d) n (omega (arith, ints)) (a.closest q (same q ∙ b.on)) in
+        let up = over_middle (q *ℤ pos d) (p *ℤ pos d) n (omega (arith, ints)) (a.closest q (same q ∙ b.on)) in
         let apart : nat_abs ((q *ℤ pos e) -ℤ m) ≡ nat_abs ((p *ℤ pos e) -ℤ m) → ⊥ = λ f. let k = b.larger p (sym (same p) ∙ a.on) (sym f) in omega (arith, ints) in
         let close = b.closest p (sym (same p) ∙ a.on) in
         let down = under_middle (q *ℤ pos e) (p *ℤ pos e) m (omega (arith, ints)) (omega (arith, apart)) in
@@ -234,17 +234,17 @@ nearest_is P n d = refl
 pub rounds_from : (P : ℤ → Bool) (n : ℤ) (d : ℕ) (low high : ℤ) (r : Rounded) → inside n d ≡ true → Below P (floor n d) low → Above P (ceiling n d) high → r.below ≡ low → r.nearest ≡ closer_of n d low high → r.above ≡ high → Rounds P n d r
 rounds_from P n d low high r e b a below nearest above =
     record {
-      down = subst (Below P (floor n d)) (sym below) b;
-      closest = subst (Nearest P n d) (sym nearest) (closer_is_nearest P n d low high (inside_range n d e).0 b a);
-      up = subst (Above P (ceiling n d)) (sym above) a;
+      below = subst (Below P (floor n d)) (sym below) b;
+      nearest = subst (Nearest P n d) (sym nearest) (closer_is_nearest P n d low high (inside_range n d e).0 b a);
+      above = subst (Above P (ceiling n d)) (sym above) a;
     }
 
 pub rounds_value : (P : ℤ → Bool) → ((z : ℤ) → Near P z) → (n : ℤ) (d : ℕ) (r : Rounded) → inside n d ≡ true → Rounds P n d r → Some r ≡ rounded P n d
 rounds_value P near n d r e h =
     ap Some (λ i. record {
-      below = below_value P near (floor n d) r.below h.down i;
-      nearest = nearest_value P near n d r.nearest (inside_range n d e).0 h.closest i;
-      above = above_value P near (ceiling n d) r.above h.up i;
+      below = below_value P near (floor n d) r.below h.below i;
+      nearest = nearest_value P near n d r.nearest (inside_range n d e).0 h.nearest i;
+      above = above_value P near (ceiling n d) r.above h.above i;
     })
     ∙ sym (cond-true (inside n d) _ None e)
 
@@ -288,10 +288,10 @@ rounding_rises P Q same n m d e (Some r) None a b h = tt
 rounding_rises P Q same n m d e (Some r) (Some s) a b h =
     let some_d = (inside_range n d a.0).0 in
     let some_e = (inside_range m e b.0).0 in (
-      below_rises P Q same (floor n d) (floor m e) r.below s.below a.1.down b.1.down (floor_rises n m d e some_d some_e h),
+      below_rises P Q same (floor n d) (floor m e) r.below s.below a.1.below b.1.below (floor_rises n m d e some_d some_e h),
       (
-        nearest_rises P Q same n m d e r.nearest s.nearest some_d some_e a.1.closest b.1.closest h,
-        above_rises P Q same (ceiling n d) (ceiling m e) r.above s.above a.1.up b.1.up (ceiling_rises n m d e some_d some_e h),
+        nearest_rises P Q same n m d e r.nearest s.nearest some_d some_e a.1.nearest b.1.nearest h,
+        above_rises P Q same (ceiling n d) (ceiling m e) r.above s.above a.1.above b.1.above (ceiling_rises n m d e some_d some_e h),
       ),
     )
 
@@ -304,5 +304,5 @@ rounds_close P near n d r e h =
     let from = next.from in
     let to = next.to in
     floor_or_ceiling n d next.price (inside_range n d e).0
-    (λ l. let low = h.down.greatest next.price next.on l in absurd (omega (arith, ints)))
-    (λ l. let high = h.up.least next.price next.on l in omega (arith, ints))
+    (λ l. let low = h.below.greatest next.price next.on l in absurd (omega (arith, ints)))
+    (λ l. let high = h.above.least next.price next.on l in omega (arith, ints))

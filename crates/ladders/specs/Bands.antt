@@ -5,7 +5,7 @@ use Rattle.ladders.specs.Faults.{or_else, tick_fault}
 use Rattle.ladders.specs.Multiples.{multiple}
 use Rattle.ladders.specs.Prices.{within}
 use Rattle.ladders.specs.declared.bands.Band.{Band}
-use Rattle.ladders.specs.declared.bands.Step.{Step}
+use Rattle.ladders.specs.declared.bands.LaterBand.{LaterBand}
 use Rattle.ladders.specs.declared.faults.LadderFault.{LadderFault}
 use Rattle.ladders.specs.declared.faults.LadderFault.TheVariants.{NoBand, TooManyBands, StartMisplaced, StartOutOfRange, StartsNotRising, StartOffTick}
 use Rattle.ladders.specs.declared.ticks.Tick.{Tick}
@@ -70,8 +70,8 @@ ladder_fault (b ∷ bs) =
 abbrev pub band : Option ℤ → Tick → Band
 band s t = record { start = s; tick = pos t.points }
 
-abbrev pub described : Step → Band
+abbrev pub described : LaterBand → Band
 described b = band (Some b.start) b.tick
 
-abbrev pub description : Tick → List Step → List Band
+abbrev pub description : Tick → List LaterBand → List Band
 description t bs = band None t ∷ map described bs

@@ -1,19 +1,19 @@
 -- A description has no fault exactly if it is lawful.
-use Rattle.std.specs.Prelude.{◌≡◌, Bool, true, false, cond, ◌&&◌, List, [], ◌∷◌, length, ℤ, pos, ◌≤ℤ◌, is_ok, Some, None, Ok, Err, Decides, Option, Result, int_le, nat_le, unsigned_abs, refl}
+use Rattle.std.specs.Prelude.{◌≡◌, Bool, true, false, cond, ◌&&◌, List, [], ◌∷◌, length, ℤ, pos, ◌≤ℤ◌, Some, None, Decides, Option, int_le, nat_le, unsigned_abs, refl}
 use Rattle.std.proofs.Common.{sym, ap, ◌∙◌, arith}
 use Rattle.std.specs.List.{AllByRecursion}
 use Rattle.std.proofs.lemmas.Int.{ints}
 use Rattle.std.proofs.lemmas.Option.{none-some}
 use Rattle.std.proofs.lemmas.Bool.{and_parts, and_from, cond-true, leb-true, le-leb, true≢false}
 use Rattle.ladders.specs.Bands.{rises, start_fault, band_fault, first_fault, later_fault, ladder_fault, no_start}
-use Rattle.ladders.specs.Faults.{TakenUnless, or_else, tick_fault}
+use Rattle.ladders.specs.Faults.{or_else, tick_fault}
 use Rattle.ladders.specs.Lawful.{LawfulTick, Over, Starts, Follows, Chain, LawfulBands}
 use Rattle.ladders.specs.Multiples.{multiple}
 use Rattle.ladders.specs.Prices.{within}
 use Rattle.ladders.specs.declared.bands.Band.{Band}
 use Rattle.ladders.specs.declared.faults.LadderFault.{LadderFault}
 use Rattle.ladders.specs.declared.faults.LadderFault.TheVariants.{TickOutOfRange, TooManyBands, StartOutOfRange, StartsNotRising, StartOffTick}
-use Rattle.ladders.specs.Orders.{lt_from, lt_test, le_from_test}
+use Rattle.ladders.specs.Orders.{lt_from_test, lt_test, le_from_test}
 
 -- ---- faults that are none
 
@@ -41,17 +41,17 @@ tick_lawful k e =
 tick_sound : (k : ℤ) → LawfulTick k → tick_fault k ≡ None
 tick_sound k h =
     where_none (int_le (pos 1) k && int_le k (pos 1000000)) None TickOutOfRange
-    (and_from (int_le (pos 1) k) (int_le k (pos 1000000)) (le_test_from (pos 1) k h.0) (le_test_from k (pos 1000000) h.1))
+    (and_from (int_le (pos 1) k) (int_le k (pos 1000000)) (le_test (pos 1) k h.0) (le_test k (pos 1000000) h.1))
     refl
   where
-    le_test_from : (a b : ℤ) → a ≤ℤ b → int_le a b ≡ true
-    le_test_from a b l = grind (arith, ints)
+    le_test : (a b : ℤ) → a ≤ℤ b → int_le a b ≡ true
+    le_test a b l = grind (arith, ints)
 
 -- ---- a start
 
 over_from : (o : Option ℤ) (s : ℤ) → rises o s ≡ true → Over o s
 over_from None s e = tt
-over_from (Some a) s e = lt_from a s e
+over_from (Some a) s e = lt_from_test a s e
 
 over_to : (o : Option ℤ) (s : ℤ) → Over o s → rises o s ≡ true
 over_to None s h = refl
@@ -141,8 +141,3 @@ bands_sound (b ∷ bs) h =
 -- bands with a fault are not lawful, so a constructor is right to refuse them
 pub refused_unlawful : (bs : List Band) (f : LadderFault) → ladder_fault bs ≡ Some f → Decides false (LawfulBands bs)
 refused_unlawful bs f e = (λ t. absurd (true≢false (sym t)), λ l. absurd (none-some f (sym (bands_sound bs l) ∙ e)))
-
--- a constructor that succeeds where there is no fault, and otherwise tells it, takes exactly the lawful bands
-pub taken_if_lawful : {L : Type 0} (M : L → Type 0) (bs : List Band) (r : Result L LadderFault) → TakenUnless (ladder_fault bs) M r → Decides (is_ok r) (LawfulBands bs)
-taken_if_lawful M bs (Ok l) h = (λ _. bands_lawful bs h.0, λ _. refl)
-taken_if_lawful M bs (Err f) h = refused_unlawful bs f h

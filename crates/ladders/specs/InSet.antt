@@ -41,29 +41,26 @@ module _ {L : Type 0} (holds : L → ℤ → Bool) where
   set_is_near near (l ∷ ls) zero z = near l z
   set_is_near near (l ∷ ls) (suc n) z = set_is_near near ls n z
 
--- where every whole number is lawful, a number is its own rounding
+-- where every whole number is lawful, a number within the limit is its own rounding, up and down
+own_rounding : (Rounding : ℤ → Type 0) (v : ℤ) (r : Option ℤ) → Rounding v → r ≡ cond (within v) (Some v) None → AnswersWhere (within v) Rounding r
+own_rounding Rounding v r own e =
+    subst (AnswersWhere (within v) Rounding) (sym e)
+    (cond_both (within v) (Some v) None (AnswersWhere (within v) Rounding) (λ t. (t, own)) (λ t. t))
+
 pub above_itself : (P : ℤ → Bool) → ((v : ℤ) → P v ≡ true) → (v : ℤ) (r : Option ℤ) → r ≡ cond (within v) (Some v) None → AnswersWhere (within v) (Above P v) r
-above_itself P all v r e =
-    subst (AnswersWhere (within v) (Above P v)) (sym e)
-    (cond_both (within v) (Some v) None (AnswersWhere (within v) (Above P v))
-    (λ t. (t, record { on = all v; reaches = omega (arith, ints); least = λ q _ l. l }))
-    (λ t. t))
+above_itself P all v r = own_rounding (Above P v) v r (record { on = all v; reaches = omega (arith, ints); least = λ q _ l. l })
 
 pub below_itself : (P : ℤ → Bool) → ((v : ℤ) → P v ≡ true) → (v : ℤ) (r : Option ℤ) → r ≡ cond (within v) (Some v) None → AnswersWhere (within v) (Below P v) r
-below_itself P all v r e =
-    subst (AnswersWhere (within v) (Below P v)) (sym e)
-    (cond_both (within v) (Some v) None (AnswersWhere (within v) (Below P v))
-    (λ t. (t, record { on = all v; reaches = omega (arith, ints); greatest = λ q _ l. l }))
-    (λ t. t))
+below_itself P all v r = own_rounding (Below P v) v r (record { on = all v; reaches = omega (arith, ints); greatest = λ q _ l. l })
 
 -- ---- one ladder more of a set that is described: d stands at place i
 
 -- the ladders are those described, one by one
-abbrev pub Told : {D L : Type 0} → (D → ℤ → Bool) → (L → ℤ → Bool) → List D → List L → Type 0
-Told prices holds [] [] = Unit {0}
-Told prices holds [] (l ∷ ls) = ⊥
-Told prices holds (d ∷ ds) [] = ⊥
-Told prices holds (d ∷ ds) (l ∷ ls) = ((v : ℤ) → holds l v ≡ prices d v) × Told prices holds ds ls
+abbrev pub AsDescribed : {D L : Type 0} → (D → ℤ → Bool) → (L → ℤ → Bool) → List D → List L → Type 0
+AsDescribed prices holds [] [] = Unit {0}
+AsDescribed prices holds [] (l ∷ ls) = ⊥
+AsDescribed prices holds (d ∷ ds) [] = ⊥
+AsDescribed prices holds (d ∷ ds) (l ∷ ls) = ((v : ℤ) → holds l v ≡ prices d v) × AsDescribed prices holds ds ls
 
 module _ {D L : Type 0} (fault : D → Option LadderFault) (prices : D → ℤ → Bool) (holds : L → ℤ → Bool) where
   at_drop : (ds : List D) (i : ℕ) (d : D) → i < length ds → d ≡ slice_index_or ds i d → each_fault fault (drop i ds) ≡ or_else (fault d) (each_fault fault (drop (i + 1) ds))
@@ -72,25 +69,25 @@ module _ {D L : Type 0} (fault : D → Option LadderFault) (prices : D → ℤ �
   pub sound_at : (ds : List D) (i : ℕ) (d : D) → i < length ds → d ≡ slice_index_or ds i d → each_fault fault ds ≡ each_fault fault (drop i ds) → fault d ≡ None → each_fault fault ds ≡ each_fault fault (drop (i + 1) ds)
   sound_at ds i d h read inv e = inv ∙ at_drop ds i d h read ∙ ap (λ o. or_else o (each_fault fault (drop (i + 1) ds))) e
 
-  told_push : (ds : List D) (ls : List L) (d : D) (l : L) → Told prices holds ds ls → ((v : ℤ) → holds l v ≡ prices d v) → Told prices holds (ds ++ (d ∷ [])) (ls ++ (l ∷ []))
-  told_push [] [] d l t e = (e, tt)
-  told_push [] (m ∷ ms) d l t e = absurd t
-  told_push (c ∷ cs) [] d l t e = absurd t
-  told_push (c ∷ cs) (m ∷ ms) d l t e = (t.0, told_push cs ms d l t.1 e)
+  described_push : (ds : List D) (ls : List L) (d : D) (l : L) → AsDescribed prices holds ds ls → ((v : ℤ) → holds l v ≡ prices d v) → AsDescribed prices holds (ds ++ (d ∷ [])) (ls ++ (l ∷ []))
+  described_push [] [] d l t e = (e, tt)
+  described_push [] (m ∷ ms) d l t e = absurd t
+  described_push (c ∷ cs) [] d l t e = absurd t
+  described_push (c ∷ cs) (m ∷ ms) d l t e = (t.0, described_push cs ms d l t.1 e)
 
-  pub told_more : (ds : List D) (ls : List L) (i : ℕ) (d : D) (l : L) → i < length ds → i < length ls → d ≡ slice_index_or ds i d → Told prices holds (take i ds) (take i ls) → ((v : ℤ) → holds l v ≡ prices d v) → Told prices holds (take (i + 1) ds) (take (i + 1) (slice_set ls i l))
-  told_more ds ls i d l h k read inv e =
+  pub described_more : (ds : List D) (ls : List L) (i : ℕ) (d : D) (l : L) → i < length ds → i < length ls → d ≡ slice_index_or ds i d → AsDescribed prices holds (take i ds) (take i ls) → ((v : ℤ) → holds l v ≡ prices d v) → AsDescribed prices holds (take (i + 1) ds) (take (i + 1) (slice_set ls i l))
+  described_more ds ls i d l h k read inv e =
       let more = take_more ds i d h ∙ ap (λ x. take i ds ++ (x ∷ [])) (sym read) in
-      subst (λ (xs : List D). Told prices holds xs (take (i + 1) (slice_set ls i l))) (sym more)
-      (subst (Told prices holds (take i ds ++ (d ∷ []))) (sym (take_more_set ls i l k)) (told_push (take i ds) (take i ls) d l inv e))
+      subst (λ (xs : List D). AsDescribed prices holds xs (take (i + 1) (slice_set ls i l))) (sym more)
+      (subst (AsDescribed prices holds (take i ds ++ (d ∷ []))) (sym (take_more_set ls i l k)) (described_push (take i ds) (take i ls) d l inv e))
 
   -- with a lawful number of ladders, the fault of a set is one of its ladders'
   pub sized : (ds : List D) → size_fault (length ds) ≡ None → set_fault fault ds ≡ each_fault fault ds
   sized ds e = ap (λ o. or_else o (each_fault fault ds)) e
 
-  pub told_lawful : (ds : List D) (ls : List L) → Told prices holds ds ls → (n : ℕ) (v : ℤ) → lawful_at holds ls n v ≡ lawful_at prices ds n v
-  told_lawful [] [] t n v = refl
-  told_lawful [] (l ∷ ls) t n v = absurd t
-  told_lawful (d ∷ ds) [] t n v = absurd t
-  told_lawful (d ∷ ds) (l ∷ ls) t zero v = t.0 v
-  told_lawful (d ∷ ds) (l ∷ ls) t (suc n) v = told_lawful ds ls t.1 n v
+  pub described_lawful : (ds : List D) (ls : List L) → AsDescribed prices holds ds ls → (n : ℕ) (v : ℤ) → lawful_at holds ls n v ≡ lawful_at prices ds n v
+  described_lawful [] [] t n v = refl
+  described_lawful [] (l ∷ ls) t n v = absurd t
+  described_lawful (d ∷ ds) [] t n v = absurd t
+  described_lawful (d ∷ ds) (l ∷ ls) t zero v = t.0 v
+  described_lawful (d ∷ ds) (l ∷ ls) t (suc n) v = described_lawful ds ls t.1 n v

@@ -6,14 +6,14 @@ use Rattle.std.proofs.lemmas.Bool.{and_parts, and_from}
 use Rattle.ladders.specs.Prices.{within}
 use Rattle.ladders.specs.Rounding.{Above, Below}
 
-pub lt_from : (a b : ℤ) → int_lt a b ≡ true → a <ℤ b
-lt_from a b e = grind (arith, ints)
+pub lt_from_test : (a b : ℤ) → int_lt a b ≡ true → a <ℤ b
+lt_from_test a b e = grind (arith, ints)
 
 pub lt_test : (a b : ℤ) → a <ℤ b → int_lt a b ≡ true
 lt_test a b e = grind (arith, ints)
 
-pub le_test : (a b : ℤ) → b ≤ℤ a → int_lt a b ≡ false
-le_test a b e = grind (arith, ints)
+pub not_lt_test : (a b : ℤ) → b ≤ℤ a → int_lt a b ≡ false
+not_lt_test a b e = grind (arith, ints)
 
 pub le_from_test : (a b : ℤ) → int_le a b ≡ true → a ≤ℤ b
 le_from_test a b e = grind (arith, ints)

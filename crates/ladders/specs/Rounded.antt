@@ -6,9 +6,9 @@ use Rattle.ladders.specs.Values.{above_of, below_of, nearest_of}
 use Rattle.ladders.specs.declared.rounding.Rounded.{Rounded}
 
 pub record Rounds (lawful : ℤ → Bool) (n : ℤ) (d : ℕ) (r : Rounded) : Type 0 where
-  pub down : Below lawful (floor n d) r.below
-  pub closest : Nearest lawful n d r.nearest
-  pub up : Above lawful (ceiling n d) r.above
+  pub below : Below lawful (floor n d) r.below
+  pub nearest : Nearest lawful n d r.nearest
+  pub above : Above lawful (ceiling n d) r.above
 
 -- the same as a value, and nothing for a fraction that is not inside the limit
 abbrev pub rounded : (ℤ → Bool) → ℤ → ℕ → Option Rounded

@@ -1,4 +1,4 @@
-// The bands of a stepped ladder. Three types, since what is known differs: a Band is as described, a Step as the ladder
+// The bands of a stepped ladder. Three types, since what is known differs: a Band is as described, a LaterBand as the ladder
 // keeps it, and stepping's Before as the next band looks at it.
 use crate::ticks::Tick;
 
@@ -11,7 +11,7 @@ pub struct Band {
 
 // A later band: its prices begin at its start.
 #[derive(Clone, Copy)]
-pub struct Step {
+pub struct LaterBand {
     pub start: i64,
     pub tick: Tick,
 }

@@ -5,7 +5,7 @@ ghost use Rattle.ladders.specs.Faults.{TakenUnless};
 ghost use Rattle.ladders.specs.Lawful.{LawfulBands};
 ghost use Rattle.ladders.specs.InBand.{ladder_is_near};
 
-use crate::bands::{Band, Step};
+use crate::bands::{Band, LaterBand};
 use crate::faults::LadderFault;
 use crate::limits::is_within;
 use crate::rungs::Ladder;
@@ -16,7 +16,7 @@ use crate::ticks::Tick;
 #[derive(Clone, Copy)]
 pub struct SteppedLadder {
     first: Tick,
-    later: [Step; 3],
+    later: [LaterBand; 3],
     count: usize,
     ghost few: { count ≤ 3 },
     ghost lawful: { is_some (ladder_fault (description first (take count later))) ≡ false },
@@ -55,22 +55,22 @@ impl Before {
     }
 
     // The next band.
-    fn checked_step(self, next: Band) -> Result<Step, LadderFault>
+    fn checked_band(self, next: Band) -> Result<LaterBand, LadderFault>
         ensures { TakenUnless (band_fault (band self.start self.tick) next) (λ s. described s ≡ next) result }
     {
         let tick = Tick::new(next.tick)?;
         let start = self.checked_start(tick, next.start)?;
-        Ok(Step { start, tick })
+        Ok(LaterBand { start, tick })
     }
 }
 
-impl From<Step> for Before {
+impl From<LaterBand> for Before {
     ghost from_gives = { λ s b. (b.start ≡ Some s.start) × (b.tick ≡ s.tick) };
 
-    fn from(step: Step) -> Before {
+    fn from(band: LaterBand) -> Before {
         Before {
-            start: Some(step.start),
-            tick: step.tick,
+            start: Some(band.start),
+            tick: band.tick,
         }
     }
 }
@@ -93,11 +93,11 @@ fn checked_first(head: Band) -> Result<Tick, LadderFault>
 }
 
 // The bands after the first, checked one after the other.
-fn checked_steps(first: Tick, rest: &[Band]) -> Result<[Step; 3], LadderFault>
+fn checked_later(first: Tick, rest: &[Band]) -> Result<[LaterBand; 3], LadderFault>
     requires { length rest.now ≤ 3 }
     ensures { TakenUnless (later_fault (band None first) rest.now) (λ later. map described (take (length rest.now) later) ≡ rest.now) result }
 {
-    let mut later = [Step {
+    let mut later = [LaterBand {
         start: 0,
         tick: first,
     }; 3];
@@ -107,9 +107,9 @@ fn checked_steps(first: Tick, rest: &[Band]) -> Result<[Step; 3], LadderFault>
     };
     // By place, since a zip with `iter_mut` leaves the proof without the array's values.
     for (i, next) in rest.iter().enumerate() {
-        let step = before.checked_step(*next)?;
-        later[i] = step;
-        before = Before::from(step);
+        let band = before.checked_band(*next)?;
+        later[i] = band;
+        before = Before::from(band);
     }
     Ok(later)
 }
@@ -134,7 +134,7 @@ impl SteppedLadder {
             return Err(LadderFault::TooManyBands);
         }
         let first = checked_first(*head)?;
-        let later = checked_steps(first, rest)?;
+        let later = checked_later(first, rest)?;
         Ok(SteppedLadder {
             first,
             later,
@@ -148,8 +148,8 @@ impl SteppedLadder {
     {
         self.later[..self.count]
             .iter()
-            .take_while(|step| !is_under(v, step.start))
-            .fold(self.first, |_, step| step.tick)
+            .take_while(|band| !is_under(v, band.start))
+            .fold(self.first, |_, band| band.tick)
     }
 }
 

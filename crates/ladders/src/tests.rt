@@ -22,8 +22,8 @@ fn worked_roundings_come_out(rt: HostRuntime) -> Result<(), Fail> {
         let set = EvenSet::new(&[i64::from(w.tick)])?;
         let found = round(&set, 0, w.fraction).ok_or("nothing found")?;
         match w.way {
-            Way::Near => assert_eq!(rt; found.nearest, w.price),
-            Way::Up => assert_eq!(rt; found.above, w.price),
+            Way::Nearest => assert_eq!(rt; found.nearest, w.price),
+            Way::Above => assert_eq!(rt; found.above, w.price),
         }
     }
     Ok(())

@@ -4,8 +4,8 @@ ghost use Rattle.ladders.specs.Worked.{Holds};
 
 #[derive(Clone, Copy)]
 pub enum Way {
-    Near,
-    Up,
+    Nearest,
+    Above,
 }
 
 #[derive(Clone, Copy)]
@@ -23,37 +23,37 @@ pub fn worked_roundings() -> [Worked; 6]
     [
         Worked {
             tick: 10_000,
-            way: Way::Near,
+            way: Way::Nearest,
             fraction: (38_514_999, 1),
             price: 38_510_000,
         },
         Worked {
             tick: 10,
-            way: Way::Near,
+            way: Way::Nearest,
             fraction: (-15, 1),
             price: -10,
         },
         Worked {
             tick: 10,
-            way: Way::Near,
+            way: Way::Nearest,
             fraction: (-16, 1),
             price: -20,
         },
         Worked {
             tick: 10,
-            way: Way::Up,
+            way: Way::Above,
             fraction: (101, 1),
             price: 110,
         },
         Worked {
             tick: 10,
-            way: Way::Up,
+            way: Way::Above,
             fraction: (-101, 1),
             price: -100,
         },
         Worked {
             tick: 10,
-            way: Way::Near,
+            way: Way::Nearest,
             fraction: (100 + 130, 2),
             price: 120,
         },

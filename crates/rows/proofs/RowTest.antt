@@ -53,8 +53,8 @@ found : (ps : List Place) (k : ℕ) (p : Place) → at ps k ≡ Some p → stand
 found [] k p e none = none-some p e
 found (q ∷ qs) zero p e none =
     let same : q ≡ p = cc in
-    let codes = or_parts (eqb (code p) (code q)) (stands p qs) none in
-    true≢false (sym (eq-eqb (code p) (code q) (ap code (sym same))) ∙ codes.0)
+    let neither = or_parts (eqb (code p) (code q)) (stands p qs) none in
+    true≢false (sym (eq-eqb (code p) (code q) (ap code (sym same))) ∙ neither.0)
 found (q ∷ qs) (suc k) p e none = found qs k p e (or_parts (eqb (code p) (code q)) (stands p qs) none).1
 
 once : (ps : List Place) → distinct ps ≡ true → (j k : ℕ) (p : Place) → at ps j ≡ Some p → at ps k ≡ Some p → j ≡ k

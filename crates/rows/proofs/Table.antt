@@ -1,6 +1,6 @@
 -- The table of codes tells the rows.
 use Rattle.std.proofs.Common.{◌≡◌, ℕ, zero, suc, ◌-◌, ◌/◌, ◌%◌, ◌<◌, Bool, true, false, List, [], ◌∷◌, map, get_or, Some, None, Option, refl, ap, ◌∙◌, arith}
-use Rattle.rows.specs.Codes.{at, code, code_at, codes, choices, decoded, padded, step_number, steps, choice_number, window_number, window_of, with_window}
+use Rattle.rows.specs.Codes.{at, code, code_at, choices, choice_number, decoded, padded, step_number, steps, table, window_number, window_of, with_window}
 use Rattle.rows.specs.Families.{number}
 use Rattle.rows.specs.RowRules.{Fitting, looks}
 use Rattle.rows.specs.Rows.{row}
@@ -59,7 +59,7 @@ row_decoded (suc n) (p ∷ ps) f (suc k) h = row_decoded n ps (λ j q e. f (suc 
 
 -- ---- where they stand
 
-family_rows : (f : Family) → get_or codes (number f - 1) [] ≡ map (λ c. padded 6 (row f c)) choices
+family_rows : (f : Family) → get_or table (number f - 1) [] ≡ map (λ c. padded 6 (row f c)) choices
 family_rows LongBond = refl
 family_rows FollowingBond = refl
 family_rows OtherBond = refl

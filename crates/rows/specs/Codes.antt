@@ -15,7 +15,7 @@ at [] k = None
 at (p ∷ ps) zero = Some p
 at (p ∷ ps) (suc k) = at ps k
 
--- the steps by their numbers, from 1 on
+-- the step of each number, from 0 on
 abbrev pub steps : List (Option Step)
 steps =
     None ∷ Some Auction ∷ Some Trade ∷ Some Quote ∷ Some Average ∷ Some Theory ∷ Some TheoryUp ∷ Some Spread ∷ Some PreviousSpread
@@ -54,8 +54,8 @@ abbrev pub choices : List Choice
 choices = Close ∷ LastDay ∷ QuarterEnd ∷ Morning ∷ []
 
 -- the whole table: from family 1 on, four rows a family, six places a row
-abbrev pub codes : List (List (List ℕ))
-codes = map (λ f. map (λ c. padded 6 (row f c)) choices) all_families
+abbrev pub table : List (List (List ℕ))
+table = map (λ f. map (λ c. padded 6 (row f c)) choices) all_families
 
 -- ---- and back
 
@@ -79,4 +79,4 @@ choice_number QuarterEnd = 2
 choice_number Morning = 3
 
 abbrev pub code_at : Family → Choice → ℕ → ℕ
-code_at f c k = slice_index (slice_index_or (slice_index_or codes (number f - 1) []) (choice_number c) []) k
+code_at f c k = slice_index (slice_index_or (slice_index_or table (number f - 1) []) (choice_number c) []) k

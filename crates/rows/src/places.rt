@@ -11,7 +11,7 @@ pub struct Place {
     pub window: Option<u8>,
 }
 
-// The rows of a family.
+// Which of a family's four rows.
 #[derive(Clone, Copy, PartialEq, Eq, Debug)]
 pub enum Choice {
     Close,

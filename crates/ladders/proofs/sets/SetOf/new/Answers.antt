@@ -1,7 +1,7 @@
 use Rattle.std.proofs.Common.{◌≡◌, ◌<◌, List, length, take, ap, ◌∙◌, subst, arith}
 use Rattle.std.proofs.lemmas.List.{length-set, take_all, at_drop_all}
 use Rattle.ladders.specs.Sets.{lawful_at, each_fault}
-use Rattle.ladders.specs.InSet.{Told, sound_at, told_more, told_lawful, sized}
+use Rattle.ladders.specs.InSet.{AsDescribed, sound_at, described_more, described_lawful, sized}
 use Rattle.ladders.proofs.sets.SetOf.new.Goals as goal
 
 pub loop-i-preserved : goal.loop-i-preserved
@@ -16,7 +16,7 @@ loop-i-preserved g c =
     let size = c.in_ok-count.ensures in
     let within : i < length ls = omega arith in (
       length-set ls i _ ∙ c.loop-i.invariant.0,
-      told_more D.fault D.prices H ds ls i next.result _ c.loop-i-test.true within next.is c.loop-i.invariant.1 sound.1,
+      described_more D.fault D.prices H ds ls i next.result _ c.loop-i-test.true within next.is c.loop-i.invariant.1 sound.1,
       sound_at D.fault D.prices H ds i next.result c.loop-i-test.true next.is c.loop-i.invariant.2 sound.0,
     )
 
@@ -28,10 +28,10 @@ returns g c =
     let i = c.loop-i.i in
     let size = c.in_ok-count.ensures in
     let all : c.in_ok-count.count ≡ i = omega arith in
-    let told = subst (λ (xs : List g.row.D.Denot). Told D.prices H xs (take i c.loop-i.ladders)) (take_all i ds c.loop-i-test.false) c.loop-i.invariant.1 in (
+    let told = subst (λ (xs : List g.row.D.Denot). AsDescribed D.prices H xs (take i c.loop-i.ladders)) (take_all i ds c.loop-i-test.false) c.loop-i.invariant.1 in (
       sized D.fault D.prices H ds size.0 ∙ c.loop-i.invariant.2 ∙ at_drop_all (each_fault D.fault) ds i c.loop-i-test.false,
       (
         size.1.0,
-        λ n v. ap (λ k. lawful_at H (take k c.loop-i.ladders) n v) all ∙ told_lawful D.fault D.prices H ds (take i c.loop-i.ladders) told n v,
+        λ n v. ap (λ k. lawful_at H (take k c.loop-i.ladders) n v) all ∙ described_lawful D.fault D.prices H ds (take i c.loop-i.ladders) told n v,
       ),
     )

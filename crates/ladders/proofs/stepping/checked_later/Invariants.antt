@@ -1,6 +1,6 @@
 use Rattle.std.proofs.Common.{◌≡◌, map, length, take, drop}
 use Rattle.ladders.specs.Bands.{band, described, later_fault}
-use Rattle.ladders.proofs.stepping.checked_steps.Given as goal
+use Rattle.ladders.proofs.stepping.checked_later.Given as goal
 
 -- the bands so far are described by the front of the rest, and a fault of the rest, if any, is one of what is left
 abbrev pub invariant-loop-i : goal.invariant-loop-i
