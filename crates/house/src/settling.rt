@@ -14,7 +14,7 @@ use ladders::sets::LadderSet;
 use rows::choosing::choose;
 use rows::places::{Edition, Place};
 use rows::steps::Step;
-use rows::tables::places;
+use rows::tables::{PLACES, place_at, places};
 use std::alloc::AllocError;
 
 // A settlement, or the number of the series from which the refusal comes: nothing else can be wrong, so that no enum is needed. That
@@ -87,7 +87,7 @@ impl<L: LadderSet, B: Book> Question<'_, L, B> {
     ghost use Rattle.house.specs.Asked.{station_in};
 
     // The places of the row by which the series is settled.
-    fn places(&self) -> [Option<Place>; 6]
+    fn places(&self) -> [Option<Place>; PLACES]
         ensures { (k : ℕ) → slice_index_or result k None ≡ at (row_of self.now.series self.now.edition) k }
     {
         let terms = self.series.terms;
@@ -95,6 +95,15 @@ impl<L: LadderSet, B: Book> Question<'_, L, B> {
             terms.family,
             choose(terms.family, terms.marks, self.edition),
         )
+    }
+
+    // The place of that row at a position from 0 on; nothing past its end.
+    fn place_at(&self, position: usize) -> Option<Place>
+        ensures { result ≡ at (row_of self.now.series self.now.edition) position }
+    {
+        let terms = self.series.terms;
+        let choice = choose(terms.family, terms.marks, self.edition);
+        place_at(terms.family, choice, position)
     }
 
     // What a place of the row finds.
@@ -112,10 +121,10 @@ impl<L: LadderSet, B: Book> Question<'_, L, B> {
         ensures value { result ≡ first_found (found (L.LadderSet.lawful self.now.set.now) (price_of self.now.reference) (station_in B.Book.meaning self.now)) 1 (row_of self.now.series self.now.edition) }
         ensures reach { FoundInReach self.now.number result }
     {
-        // A loop, since it ends at an empty place as well as at a price; the position is told with the price.
-        let places = self.places();
-        for (position, place) in places.iter().enumerate() {
-            let place = (*place)?;
+        // A loop, since it ends at an empty place as well as at a price; the position is told with the price. Most rows find a
+        // price at once: the places after it are not looked up.
+        for position in 0..PLACES {
+            let place = self.place_at(position)?;
             if let Some(price) = self.look(place) {
                 return Some(settlement_at(price, place.step, position));
             }

@@ -35,8 +35,11 @@ const B: u8 = 160;
 
 const D: u8 = 176;
 
+// No row has more places.
+pub const PLACES: usize = 6;
+
 // From family 1 on, for each family its four rows, for each row six places.
-const TABLE: [[[u8; 6]; 4]; 15] = [
+static TABLE: [[[u8; PLACES]; 4]; 15] = [
     [
         [A + 4, L + 1, T, NONE, NONE, NONE],
         [A + 4, L + 1, T, NONE, NONE, NONE],
@@ -130,7 +133,7 @@ const TABLE: [[[u8; 6]; 4]; 15] = [
 ];
 
 // The codes of a row.
-fn codes(family: Family, choice: Choice) -> [u8; 6]
+fn codes(family: Family, choice: Choice) -> [u8; PLACES]
     ensures { (k : ℕ) → slice_index result k ≡ code_at family choice k }
 {
     let rows = TABLE[usize::from(family.number() - 1)];
@@ -174,7 +177,7 @@ fn decode(code: u8) -> Option<Place>
 }
 
 // The places of a row, with nothing past its end. An array, since nothing here allocates.
-pub fn places(family: Family, choice: Choice) -> [Option<Place>; 6]
+pub fn places(family: Family, choice: Choice) -> [Option<Place>; PLACES]
     ensures value { (k : ℕ) → slice_index_or result k None ≡ at (row family choice) k }
     ensures gapless { (j k : ℕ) → j ≤ k → slice_index_or result j None ≡ None → slice_index_or result k None ≡ None }
     ensures lawful { RowLawful (row family choice) }
@@ -187,5 +190,6 @@ pub fn place_at(family: Family, choice: Choice, position: usize) -> Option<Place
     ensures value { result ≡ at (row family choice) position }
     ensures lawful { RowLawful (row family choice) }
 {
-    *places(family, choice).get(position)?
+    let code = *codes(family, choice).get(position)?;
+    decode(code)
 }

@@ -1,4 +1,4 @@
-use Rattle.std.proofs.Common.{◌≡◌, ◌+◌, Some, sym, ap, ◌∙◌, arith, rules, w64, SFits, length}
+use Rattle.std.proofs.Common.{◌≡◌, ◌+◌, Some, sym, ap, ◌∙◌, arith, rules, w64, SFits}
 use Rattle.std.proofs.lemmas.Int.{to_z-of_z}
 use Rattle.rows.proofs.RowTest.{row_lawful}
 use Rattle.rows.specs.Chosen.{chosen}
@@ -8,7 +8,7 @@ use Rattle.house.proofs.settling.Question.first_found.Goals as goal
 pub returns-in_err-place-clause-value : goal.returns-in_err-place-clause-value
 returns-in_err-place-clause-value g c =
     let j = c.loop-position.position in
-    c.from_residual.ensures ∙ sym (found_nowhere _ _ j _ c.loop-position.invariant (sym (c.places-places.ensures j) ∙ c.in_err-place.was))
+    c.from_residual.ensures ∙ sym (found_nowhere _ _ j _ c.loop-position.invariant (sym (c.place_at.ensures) ∙ c.in_err-place.was))
 
 pub returns-in-Some-clause-value : goal.returns-in-Some-clause-value
 returns-in-Some-clause-value g c =
@@ -17,11 +17,11 @@ returns-in-Some-clause-value g c =
     let v = c.in-Some.price in
     let fits : SFits w64 v = search rules in
     let same : c.settlement_at.result ≡ record { price = v; step = p.step; place = j + 1 } = c.settlement_at.ensures ∙ ap (λ z. record { price = z; step = p.step; place = j + 1 }) (to_z-of_z w64 v fits) in
-    ap Some same ∙ sym (found_here _ _ j _ c.loop-position.invariant p v (sym (c.places-places.ensures j) ∙ c.in_ok-place.was) (sym c.look.ensures.value ∙ c.in-Some.is))
+    ap Some same ∙ sym (found_here _ _ j _ c.loop-position.invariant p v (sym (c.place_at.ensures) ∙ c.in_ok-place.was) (sym c.look.ensures.value ∙ c.in-Some.is))
 
 pub loop-position-preserved : goal.loop-position-preserved
 loop-position-preserved g c =
-    found_later _ _ c.loop-position.position _ c.loop-position.invariant c.in_ok-place.place (sym (c.places-places.ensures c.loop-position.position) ∙ c.in_ok-place.was) (sym c.look.ensures.value ∙ c.in_default.is)
+    found_later _ _ c.loop-position.position _ c.loop-position.invariant c.in_ok-place.place (sym (c.place_at.ensures) ∙ c.in_ok-place.was) (sym c.look.ensures.value ∙ c.in_default.is)
 
 pub returns-clause-value : goal.returns-clause-value
 returns-clause-value g c =
@@ -29,5 +29,4 @@ returns-clause-value g c =
     let lawful = row_lawful s.terms.family (chosen s.terms.family s.terms.marks c.args.self.now.edition) in
     let short = lawful.short in
     let end = c.loop-position-test.false in
-    let long : length c.places-places.result ≡ 6 = search rules in
     sym (found_not _ _ c.loop-position.position _ c.loop-position.invariant (omega arith))
