@@ -49,6 +49,10 @@ series_parts n s h =
     any_spread None e = refl
     any_spread (Some v) e = (and_parts _ _ e).1
 
+-- the previous spread that a series has, if any, is within the limits of spreads
+pub previous_spread : (n : ℕ) (s : Series) → lawful_series n s ≡ true → spread_if s.terms.spread ≡ true
+previous_spread n s h = (series_parts n s h).spread
+
 -- ---- how far prices reach
 
 price_reach : (n : ℕ) (v : ℤ) → price_lawful v ≡ true → nat_abs v ≤ reach n
@@ -140,7 +144,7 @@ finds_reach P near n k p s v Average h r b = nearest_reach P near n v.money (nat
 finds_reach P near n k p s v Theory h r b = (theory_reach P near n s.theory).0
 finds_reach P near n k p s v TheoryUp h r b = (theory_reach P near n s.theory).1
 finds_reach P near n k p s v Spread h r b = less_reach n p v.spread r (parts k v b).spread
-finds_reach P near n k p s v PreviousSpread h r b = less_reach n p s.terms.spread r (series_parts n s h).spread
+finds_reach P near n k p s v PreviousSpread h r b = less_reach n p s.terms.spread r (previous_spread n s h)
 finds_reach P near n k p s v Copy h r b = before_reach n p r
 finds_reach P near n k p s v Previous h r b = within_reach n s.terms.settlement (series_parts n s h).settlement
 finds_reach P near n k p s v Ruling h r b = ruling_reach n s.ruling (series_parts n s h).ruling

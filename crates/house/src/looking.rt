@@ -1,4 +1,6 @@
 // What each step finds.
+#![tactic(auto, using(crate::proofs::Looked::previous_spread))]
+
 ghost use Rattle.std.specs.Prelude.{◌≡◌, ◌≤◌, true, unsigned_abs};
 ghost use Rattle.book.specs.Bounds.{bounded, spread_if};
 ghost use Rattle.house.specs.Answers.{price_of};

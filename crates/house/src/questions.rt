@@ -50,7 +50,8 @@ impl<L: LadderSet> House<L> {
     }
 
     // The answer to the question, or the refusal that comes before it. Apart from `settle`, whose clauses `path` and `meaning`
-    // rest on this one, so that a fault in the answer is told here. Series and edition stay two parameters, as they are two words of a line.
+    // rest on this one, so that a fault in the answer is told here. Series and edition stay two parameters, as they are two
+    // words of a line.
     fn told<B: Book>(
         &self,
         book: &B,

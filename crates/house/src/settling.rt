@@ -17,8 +17,8 @@ use rows::steps::Step;
 use rows::tables::{PLACES, place_at, places};
 use std::alloc::AllocError;
 
-// A settlement, or the number of the series from which the refusal comes: nothing else can be wrong, so that no enum is needed. That
-// an answer is in reach is said by each function that gives one, since a Result has no ghost field.
+// A settlement, or the number of the series from which the refusal comes: nothing else can be wrong, so that no enum is
+// needed. That an answer is in reach is said by each function that gives one, since a Result has no ghost field.
 pub(crate) type Answer = Result<Settlement, u8>;
 
 // A series of which a price is asked, with all that its answer may rest on: the ladders, the book, its number, the edition, and
