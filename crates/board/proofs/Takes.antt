@@ -9,7 +9,7 @@ use Rattle.book.specs.Windows.{edges}
 use Rattle.book.specs.declared.days.Day.{Day}
 use Rattle.book.specs.declared.entries.Entry.{Entry}
 use Rattle.book.specs.declared.marks.Figures.{Figures}
-use Rattle.book.proofs.Growth.{bounded_entered, enters, small_from}
+use Rattle.book.proofs.Growth.{bounded_entered, enters, roomy_from}
 use Rattle.book.proofs.Ranges.{allowed_kind, allowed_stamp, outside_stays}
 use Rattle.book.proofs.Taking.{Admitted, admitted, same_reply}
 use Rattle.board.specs.Cells.{cell, tabled}
@@ -35,7 +35,7 @@ takes d d' k n k' n' old new e lawful day count capacity ok swept = record {
         swept s w
         ∙ ap (λ x. cond (in_range s w) (entered_if s (edges x w) (cell old s w) e) (cell old s w)) day
         ∙ cond_both (in_range s w) _ (cell old s w) (λ f. f ≡ entered d s w (cell old s w) e)
-        (λ r. enters s (edges d w) (cell old s w) e sound (small_from n (cell old s w) (lawful.bounds s w) few))
+        (λ r. enters s (edges d w) (cell old s w) e sound (roomy_from n (cell old s w) (lawful.bounds s w) few))
         (λ r. sym (outside_stays d s w (cell old s w) e a.lawful r))
 
     grows : tabled d k (n + 1) new ≡ grown (tabled d k n old) e

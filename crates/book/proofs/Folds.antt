@@ -13,7 +13,7 @@ use Rattle.book.specs.Windows.{edges}
 use Rattle.book.specs.declared.days.Day.{Day}
 use Rattle.book.specs.declared.entries.Entry.{Entry}
 use Rattle.book.specs.declared.marks.Figures.{Figures}
-use Rattle.book.proofs.Growth.{bounded_entered, bounded_empty, enters, small_from}
+use Rattle.book.proofs.Growth.{bounded_entered, bounded_empty, enters, roomy_from}
 use Rattle.book.proofs.Ranges.{allowed_kind, allowed_stamp, outside_stays}
 
 -- ---- tests of every element
@@ -57,7 +57,7 @@ same_from : (n s : ℕ) (x : ℤ × ℤ) (f : Figures) (es : List Entry) → n +
 same_from n s x f [] few h b = refl
 same_from n s x f (e ∷ es) few h b =
     let both = and_parts (sound e) (every sound es) h in
-    ap (λ g. fold (entered_if s x) g es) (enters s x f e both.0 (small_from n f b (omega arith)))
+    ap (λ g. fold (entered_if s x) g es) (enters s x f e both.0 (roomy_from n f b (omega arith)))
     ∙ same_from (n + 1) s x (entered_in s x f e) es (omega arith) both.1 (bounded_entered n s x f e (sound_parts e both.0).1 b)
 
 pub same_fold : (s : ℕ) (x : ℤ × ℤ) (es : List Entry) → length es ≤ 30000 → every sound es ≡ true → fold (entered_if s x) empty es ≡ fold (entered_in s x) empty es

@@ -6,7 +6,7 @@ use Rattle.std.proofs.lemmas.Int.{ints}
 use Rattle.std.proofs.lemmas.Bool.{and_parts, and_from, cond_both, leb-true, le-leb}
 use Rattle.book.specs.Bounds.{bounded, sums_within, spread_if, sides_if}
 use Rattle.book.specs.Entries.{kind_lawful, lots_lawful, price_lawful, side_lawful, uncrossed}
-use Rattle.book.specs.Figures.{Small, concerns, empty, entered_if, entered_in, latest, marked, roomy, settled, sound, traded, values, with_auction}
+use Rattle.book.specs.Figures.{concerns, empty, entered_if, entered_in, latest, marked, roomy, settled, sound, traded, values, with_auction}
 use Rattle.book.specs.declared.entries.Entry.{Entry}
 use Rattle.book.specs.declared.entries.Kind.{Kind}
 use Rattle.book.specs.declared.entries.Kind.TheVariants.{Trade, Auction, Leg, Spread, Quote}
@@ -153,20 +153,17 @@ pub bounded_empty : (n : ℕ) → bounded n (values empty) ≡ true
 bounded_empty n = whole n (values empty) (record { some = omega (arith, ints); few = omega (arith, ints); dear = omega arith; trade = refl; auction = refl; spread = refl; quote = refl })
 
 -- a book has room for the sums of all its entries
-pub small_from : (n : ℕ) (f : Figures) → bounded n (values f) ≡ true → n ≤ 30000 → Small f
-small_from n f b h =
+pub roomy_from : (n : ℕ) (f : Figures) → bounded n (values f) ≡ true → n ≤ 30000 → roomy f ≡ true
+roomy_from n f b h =
     let p = parts n (values f) b in
     let some = p.some in
     let few = p.few in
     let dear = p.dear in
     let lots : nat_abs f.lots ≤ 3000000000 = omega (arith, ints) in
-    record { lots = lots; money = omega arith }
-
-small_roomy : (f : Figures) → Small f → roomy f ≡ true
-small_roomy f s = and_from (leb (nat_abs f.lots) 3000000000) (leb (nat_abs f.money) 3000000000000000000) (le-leb _ _ s.lots) (le-leb _ _ s.money)
+    and_from _ _ (le-leb (nat_abs f.lots) 3000000000 lots) (le-leb (nat_abs f.money) 3000000000000000000 (omega arith))
 
 -- a sound entry, where there is room, enters the figures that it concerns
-pub enters : (s : ℕ) (x : ℤ × ℤ) (f : Figures) (e : Entry) → sound e ≡ true → Small f → entered_if s x f e ≡ entered_in s x f e
-enters s x f e ok small =
-    let ready = and_from (sound e) (roomy f) ok (small_roomy f small) in
-    ap (λ b. cond (concerns s x e && b) (marked e.kind e.stamp f) f) ready ∙ ap (λ b. cond b (marked e.kind e.stamp f) f) (and-true (concerns s x e))
+pub enters : (s : ℕ) (x : ℤ × ℤ) (f : Figures) (e : Entry) → sound e ≡ true → roomy f ≡ true → entered_if s x f e ≡ entered_in s x f e
+enters s x f e ok room =
+    ap (λ b. cond (concerns s x e && b) (marked e.kind e.stamp f) f) (and_from (sound e) (roomy f) ok room)
+    ∙ ap (λ b. cond b (marked e.kind e.stamp f) f) (and-true (concerns s x e))

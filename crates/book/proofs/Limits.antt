@@ -1,8 +1,10 @@
--- What the limits on prices and lots give for their products.
-use Rattle.std.proofs.Common.{◌≡◌, ℕ, ◌*◌, ◌≤◌, true, ℤ, pos, negsuc, ◌*ℤ◌, nat_abs, sym, refl, mul-le-mul_right, mul_comm, arith}
+-- What the limits on prices, lots and sums give as numbers.
+use Rattle.std.proofs.Common.{◌≡◌, ℕ, ◌*◌, ◌≤◌, true, leb, ℤ, pos, negsuc, ◌*ℤ◌, nat_abs, sym, refl, mul-le-mul_right, mul_comm, arith}
 use Rattle.std.proofs.lemmas.Int.{ints}
-use Rattle.std.proofs.lemmas.Bool.{true≢false}
+use Rattle.std.proofs.lemmas.Bool.{and_parts, leb-true, true≢false}
 use Rattle.book.specs.Entries.{price_lawful, lots_lawful}
+use Rattle.book.specs.Figures.{roomy}
+use Rattle.book.specs.declared.marks.Figures.{Figures}
 
 pub price_bound : (v : ℤ) → price_lawful v ≡ true → nat_abs v ≤ 1000000000
 price_bound v h = grind (arith, ints)
@@ -22,3 +24,9 @@ worth_by_lots p (pos n) h k =
     let s = mul_comm 1000000000 n in
     omega arith
 worth_by_lots p (negsuc n) h k = absurd (true≢false (sym k))
+
+-- room for one entry more is that of each sum
+pub room_for : (f : Figures) → roomy f ≡ true → (nat_abs f.lots ≤ 3000000000) × (nat_abs f.money ≤ 3000000000000000000)
+room_for f h =
+    let both = and_parts (leb (nat_abs f.lots) 3000000000) (leb (nat_abs f.money) 3000000000000000000) h in
+    (leb-true (nat_abs f.lots) 3000000000 both.0, leb-true (nat_abs f.money) 3000000000000000000 both.1)

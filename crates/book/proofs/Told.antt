@@ -37,10 +37,9 @@ next (Some v) t o = latest o t v
 none_is_not_some : {V : Type 0} (q : Option V) → q ≡ None → is_some q ≡ true → ⊥
 none_is_not_some q e h = both_ways (is_some q) (ap is_some e) h
 
--- an entry that has nothing for the figure leaves it
-passed_by : {V : Type 0} (picked : Entry → Option V) (xs : List Entry) (e : Entry) (o : Option (Last V)) → picked e ≡ None → LastOf picked xs o → LastOf picked (xs ++ (e ∷ [])) o
-passed_by picked xs e None none r = All-push (λ x. picked x ≡ None) xs e r none
-passed_by picked xs e (Some o) none r = record {
+-- a last figure stays so after one more entry that has nothing for it, or an earlier stamp
+stays_last : {V : Type 0} (picked : Entry → Option V) (xs : List Entry) (e : Entry) (o : Last V) → (is_some (picked e) ≡ true → e.stamp <ℤ o.stamp) → StandsLast picked xs o → StandsLast picked (xs ++ (e ∷ [])) o
+stays_last picked xs e o early r = record {
   front = r.front;
   entry = r.entry;
   rest = r.rest ++ (e ∷ []);
@@ -48,25 +47,17 @@ passed_by picked xs e (Some o) none r = record {
   value = r.value;
   stamp = r.stamp;
   before = r.before;
-  since = All-push (λ x. is_some (picked x) ≡ true → x.stamp <ℤ o.stamp) r.rest e r.since (λ h. absurd (none_is_not_some (picked e) none h));
+  since = All-push (λ x. is_some (picked x) ≡ true → x.stamp <ℤ o.stamp) r.rest e r.since early;
 }
+
+-- an entry that has nothing for the figure leaves it
+passed_by : {V : Type 0} (picked : Entry → Option V) (xs : List Entry) (e : Entry) (o : Option (Last V)) → picked e ≡ None → LastOf picked xs o → LastOf picked (xs ++ (e ∷ [])) o
+passed_by picked xs e None none r = All-push (λ x. picked x ≡ None) xs e r none
+passed_by picked xs e (Some o) none r = stays_last picked xs e o (λ h. absurd (none_is_not_some (picked e) none h)) r
 
 -- an entry with as late a stamp as any before it is last
 comes_last : {V : Type 0} (picked : Entry → Option V) (xs : List Entry) (e : Entry) (v : V) → picked e ≡ Some v → AllByRecursion (λ x. is_some (picked x) ≡ true → x.stamp ≤ℤ e.stamp) xs → StandsLast picked (xs ++ (e ∷ [])) (record { stamp = e.stamp; value = v })
 comes_last picked xs e v has before = record { front = xs; entry = e; rest = []; stands = refl; value = has; stamp = refl; before = before; since = tt }
-
--- an entry with an earlier stamp than the last one leaves it
-comes_late : {V : Type 0} (picked : Entry → Option V) (xs : List Entry) (e : Entry) (o : Last V) → e.stamp <ℤ o.stamp → StandsLast picked xs o → StandsLast picked (xs ++ (e ∷ [])) o
-comes_late picked xs e o early r = record {
-  front = r.front;
-  entry = r.entry;
-  rest = r.rest ++ (e ∷ []);
-  stands = ap (λ ys. ys ++ (e ∷ [])) r.stands ∙ append_assoc r.front (r.entry ∷ r.rest) (e ∷ []);
-  value = r.value;
-  stamp = r.stamp;
-  before = r.before;
-  since = All-push (λ x. is_some (picked x) ≡ true → x.stamp <ℤ o.stamp) r.rest e r.since (λ h. early);
-}
 
 -- no entry for the figure has a later stamp than the last one
 none_later : {V : Type 0} (picked : Entry → Option V) (xs : List Entry) (o : Last V) (t : ℤ) → o.stamp ≤ℤ t → StandsLast picked xs o → AllByRecursion (λ x. is_some (picked x) ≡ true → x.stamp ≤ℤ t) xs
@@ -84,7 +75,7 @@ last_push picked xs e (Some v) None is r =
 last_push picked xs e (Some v) (Some o) is r =
     cond_both (le_z o.stamp e.stamp) (Some (record { stamp = e.stamp; value = v })) (Some o) (LastOf picked (xs ++ (e ∷ [])))
     (λ up. comes_last picked xs e v is (none_later picked xs o e.stamp (le_from o.stamp e.stamp up) r))
-    (λ down. comes_late picked xs e o (over_from o.stamp e.stamp down) r)
+    (λ down. stays_last picked xs e o (λ h. over_from o.stamp e.stamp down) r)
 
 -- ---- what each kind does to each figure
 

@@ -1,5 +1,5 @@
 -- The figures of one series and window, and how an entry enters them.
-use Rattle.std.specs.Prelude.{ℕ, ◌≤◌, Bool, false, cond, ◌&&◌, ℤ, pos, negsuc, ◌+ℤ◌, ◌*ℤ◌, Some, None, Option, ◌==◌, int_le, nat_le, unsigned_abs}
+use Rattle.std.specs.Prelude.{ℕ, Bool, false, cond, ◌&&◌, ℤ, pos, negsuc, ◌+ℤ◌, ◌*ℤ◌, Some, None, Option, ◌==◌, int_le, nat_le, unsigned_abs}
 use Rattle.book.specs.Entries.{kind_lawful}
 use Rattle.book.specs.Windows.{holds}
 use Rattle.book.specs.declared.entries.Entry.{Entry}
@@ -96,13 +96,7 @@ values f = record {
   money = f.money;
 }
 
--- ---- room for one entry more, so that no sum passes 64 bits
-
-pub record Small (f : Figures) : Type 0 where
-  pub lots : unsigned_abs f.lots ≤ 3000000000
-  pub money : unsigned_abs f.money ≤ 3000000000000000000
-
--- the same as a test
+-- room for one entry more, so that no sum passes 64 bits
 abbrev pub roomy : Figures → Bool
 roomy f = nat_le (unsigned_abs f.lots) 3000000000 && nat_le (unsigned_abs f.money) 3000000000000000000
 

@@ -1,7 +1,7 @@
 // The figures of one series and window.
 ghost use Rattle.std.specs.Prelude.{◌≡◌, ◌≤◌, true, false, ◌*ℤ◌, MatchOption, unsigned_abs};
 ghost use Rattle.book.specs.Entries.{kind_lawful, lots_lawful, price_lawful, side_lawful};
-ghost use Rattle.book.specs.Figures.{Small, empty, entered_if, latest, marked, marked_in, roomy, settled, sound, stamp_small, traded, values};
+ghost use Rattle.book.specs.Figures.{empty, entered_if, latest, marked, marked_in, roomy, settled, sound, stamp_small, traded, values};
 
 use crate::entries::{Entry, Kind, is_kind_lawful};
 use crate::lawful::DAY_END;
@@ -144,7 +144,7 @@ impl Figures {
 
     // A trade enters the last trade and the sums.
     fn add_trade(&mut self, stamp: i32, deal: Deal)
-        requires { Small self.old }
+        requires { roomy self.old ≡ true }
         ensures { self.new ≡ traded stamp deal.price deal.lots self.old }
     {
         self.trade = latest(self.trade, stamp, short(deal.price));
@@ -156,7 +156,7 @@ impl Figures {
     fn enter(&mut self, e: &Entry)
         requires stamp { stamp_small e.now.stamp ≡ true }
         requires kind { kind_lawful e.now.kind ≡ true }
-        requires room { Small self.old }
+        requires room { roomy self.old ≡ true }
         ensures { self.new ≡ marked e.now.kind e.now.stamp self.old }
     {
         let stamp = short(e.stamp);
