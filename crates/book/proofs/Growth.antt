@@ -63,9 +63,6 @@ of_more n k v h p =
     let few = p.few in
     record { some = p.some; few = omega (arith, ints); dear = p.dear; trade = p.trade; auction = p.auction; spread = p.spread; quote = p.quote }
 
-pub bounded_of_more : (n k : ℕ) (v : Values) → n ≤ k → bounded n v ≡ true → bounded k v ≡ true
-bounded_of_more n k v h b = whole k v (of_more n k v h (parts n v b))
-
 later : (n : ℕ) (v : Values) → Parts n v → Parts (n + 1) v
 later n v p = of_more n (n + 1) v (omega arith) p
 
