@@ -3,18 +3,34 @@
 
 #[cfg(test)]
 mod tests {
-    // What the cases share: a day, a house over two ladders, listings and entries in short form.
+    // Runs a case on a tape and on a board of so many places.
+    macro_rules! on_both {
+        ($rt:ident, $case:ident, $places:expr) => {{
+            let day = LawfulDay::new(DAY)?;
+            let mut slots = [BLANK; $places];
+            $case(&$rt, &mut Tape::new(day, &mut slots))?;
+            $case(&$rt, &mut Board::new(day, $places))
+        }};
+    }
+
+    // What the cases share: a day, houses over two ladders, listings and entries in short form, and what is expected of a call.
     mod setting {
+        use board::boards::Board;
+        use book::books::Book;
         use book::days::Day;
         use book::entries::{Entry, Kind};
+        use book::lawful::LawfulDay;
         use house::answers::Settlement;
         use house::faults::HouseFault;
         use house::houses::House;
+        use house::phases::Bell;
         use house::terms::Listing;
         use ladders::faults::LadderFault;
         use ladders::sets::{EvenSet, LadderSet};
-        use rows::places::Marks;
+        use rows::places::{Edition, Marks};
         use rows::steps::Step;
+        use std::process::Abort;
+        use std::test::*;
 
         // On this day all thirteen windows differ.
         pub(crate) const DAY: Day = Day {
@@ -43,6 +59,33 @@ mod tests {
             Ok(House::new(set))
         }
 
+        // A house of these series, listing.
+        pub(crate) fn listed(series: &[Listing]) -> Result<House<EvenSet>, Fail> {
+            let mut house = new_house()?;
+            for terms in series {
+                house.list(*terms)?;
+            }
+            Ok(house)
+        }
+
+        // The same, trading.
+        pub(crate) fn trading(series: &[Listing]) -> Result<House<EvenSet>, Fail> {
+            let mut house = listed(series)?;
+            house.ring(Bell::Open)?;
+            Ok(house)
+        }
+
+        // The same, closed.
+        pub(crate) fn closed(series: &[Listing]) -> Result<House<EvenSet>, Fail> {
+            let mut house = trading(series)?;
+            house.ring(Bell::Close)?;
+            Ok(house)
+        }
+
+        pub(crate) fn new_board(places: usize) -> Result<Board, Fail> {
+            Ok(Board::new(LawfulDay::new(DAY)?, places))
+        }
+
         // A series on ladder 0, with a reference or none, and nothing else.
         pub(crate) fn listing(family: i64, reference: Option<i64>) -> Listing {
             Listing {
@@ -52,6 +95,14 @@ mod tests {
                 settlement: None,
                 spread: None,
                 marks: NO_MARKS,
+            }
+        }
+
+        // Families 2, 4, 8 and 13 refer to series 0.
+        pub(crate) fn reference_of(family: i64) -> Option<i64> {
+            match family {
+                2 | 4 | 8 | 13 => Some(0),
+                _ => None,
             }
         }
 
@@ -76,15 +127,53 @@ mod tests {
         }
 
         // The number of a refusal; 0 if there is none.
-        pub(crate) fn refusal<T: Drop>(res: Result<T, HouseFault>) -> u8 {
+        fn refusal<T: Drop>(res: Result<T, HouseFault>) -> u8 {
             match res {
                 Ok(_) => 0,
                 Err(fault) => fault.number(),
             }
         }
 
+        // The call is refused with this number, or taken where it is 0.
+        pub(crate) fn tells<T: Drop>(
+            rt: &impl Abort,
+            res: Result<T, HouseFault>,
+            number: u8,
+            why: &str,
+        ) {
+            assert_eq!(rt; refusal(res), number, "{why}");
+        }
+
         pub(crate) fn price(price: i64, step: Step, place: u8) -> Result<Settlement, HouseFault> {
             Ok(Settlement { price, step, place })
+        }
+
+        pub(crate) fn no_price(origin: u8) -> Result<Settlement, HouseFault> {
+            Err(HouseFault::NoPrice(origin))
+        }
+
+        // The question for a price at the close has this answer.
+        pub(crate) fn closes<B: Book>(
+            rt: &impl Abort,
+            house: &House<EvenSet>,
+            book: &B,
+            series: i64,
+            expected: Result<Settlement, HouseFault>,
+        ) {
+            let found = house.settle(book, series, Edition::Close);
+            assert_eq!(rt; found, expected, "series {series} at the close");
+        }
+
+        // The same in the morning.
+        pub(crate) fn opens<B: Book>(
+            rt: &impl Abort,
+            house: &House<EvenSet>,
+            book: &B,
+            series: i64,
+            expected: Result<Settlement, HouseFault>,
+        ) {
+            let found = house.settle(book, series, Edition::Morning);
+            assert_eq!(rt; found, expected, "series {series} in the morning");
         }
     }
 
@@ -94,10 +183,8 @@ mod tests {
         use board::boards::Board;
         use book::books::Book;
         use book::lawful::LawfulDay;
-        use house::faults::HouseFault;
         use house::phases::Bell;
         use ladders::sets::LadderSet;
-        use rows::places::Edition;
         use rows::steps::Step;
         use std::process::Abort;
         use std::test::*;
@@ -115,40 +202,24 @@ mod tests {
                 house.enter(book, spread(series, 140_000, -100_000_000))?;
             }
             house.ring(Bell::Close)?;
-            assert_eq!(rt;
-                house.settle(book, 31, Edition::Close).err(),
-                Some(HouseFault::NoPrice(0))
-            );
+            closes(rt, &house, book, 31, no_price(0));
             house.set_theory(0, Some(1_000_000_000))?;
-            assert_eq!(rt;
-                house.settle(book, 0, Edition::Close),
-                price(1_000_000_000, Step::Theory, 3)
-            );
-            assert_eq!(rt;
-                house.settle(book, 1, Edition::Close),
-                price(1_100_000_000, Step::Spread, 1)
-            );
-            assert_eq!(rt;
-                house.settle(book, 31, Edition::Close),
-                price(4_100_000_000, Step::Spread, 1)
-            );
+            closes(rt, &house, book, 0, price(1_000_000_000, Step::Theory, 3));
+            closes(rt, &house, book, 1, price(1_100_000_000, Step::Spread, 1));
+            closes(rt, &house, book, 31, price(4_100_000_000, Step::Spread, 1));
             Ok(())
         }
 
         #[test]
         fn long_chains(rt: HostRuntime) -> Result<(), Fail> {
-            let day = LawfulDay::new(DAY)?;
-            let mut slots = [BLANK; 31];
-            chain(&rt, &mut Tape::new(day, &mut slots))?;
-            chain(&rt, &mut Board::new(day, 31))
+            on_both!(rt, chain, 31)
         }
     }
 
-    // Five mistakes that are easy to make.
+    // Five mistakes that are easy to make, and two of the worked prices.
     mod mistakes {
         use crate::tests::setting::*;
         use board::boards::Board;
-        use book::books::Book;
         use book::entries::Kind;
         use book::lawful::LawfulDay;
         use house::answers::Settlement;
@@ -161,15 +232,28 @@ mod tests {
         use rows::steps::Step;
         use std::test::*;
 
+        const TRADE: Kind = Kind::Trade {
+            price: 100,
+            lots: 1,
+        };
+
+        const BID_ALONE: Kind = Kind::Quote {
+            bid: Some(100),
+            ask: None,
+        };
+
+        const BOTH: Kind = Kind::Quote {
+            bid: Some(100),
+            ask: Some(120),
+        };
+
         // The closing price of one series after two entries and the close bell.
         fn closing(
             terms: Listing,
             kinds: [(i64, Kind); 2],
         ) -> Result<Result<Settlement, HouseFault>, Fail> {
-            let mut house = new_house()?;
-            let mut board = Board::new(LawfulDay::new(DAY)?, 2);
-            house.list(terms)?;
-            house.ring(Bell::Open)?;
+            let mut house = trading(&[terms])?;
+            let mut board = new_board(2)?;
             for (stamp, kind) in kinds {
                 house.enter(&mut board, entry(0, stamp, kind))?;
             }
@@ -180,17 +264,10 @@ mod tests {
         // The last quote counts, and has one side: no earlier quote is searched for.
         #[test]
         fn last_quotes(rt: HostRuntime) -> Result<(), Fail> {
-            let two = Kind::Quote {
-                bid: Some(100),
-                ask: Some(120),
-            };
-            let one = Kind::Quote {
-                bid: Some(100),
-                ask: None,
-            };
-            let found = closing(listing(10, None), [(140_000, two), (140_001, one)])?;
-            assert_eq!(rt; found.err(), Some(HouseFault::NoPrice(0)));
-            let found = closing(listing(10, None), [(140_000, one), (140_000, two)])?;
+            let terms = listing(10, None);
+            let found = closing(terms, [(140_000, BOTH), (140_001, BID_ALONE)])?;
+            assert_eq!(rt; found, no_price(0));
+            let found = closing(terms, [(140_000, BID_ALONE), (140_000, BOTH)])?;
             assert_eq!(rt; found, price(110, Step::Quote, 2));
             Ok(())
         }
@@ -199,38 +276,27 @@ mod tests {
         #[test]
         fn worked(rt: HostRuntime) -> Result<(), Fail> {
             let mut house = House::new(EvenSet::new(&[10_000i64])?);
-            let board = Board::new(LawfulDay::new(DAY)?, 1);
             house.list(listing(9, None))?;
             house.set_theory(0, Some(38_514_999))?;
             house.ring(Bell::Open)?;
-            assert_eq!(rt;
-                house.settle(&board, 0, Edition::Morning),
-                price(38_510_000, Step::Theory, 1)
-            );
-            let one = Kind::Quote {
-                bid: Some(100),
-                ask: None,
-            };
+            let board = new_board(1)?;
+            opens(&rt, &house, &board, 0, price(38_510_000, Step::Theory, 1));
             let wide = Kind::Quote {
                 bid: Some(100),
                 ask: Some(130),
             };
-            let found = closing(listing(10, None), [(140_000, one), (140_001, wide)])?;
+            let found = closing(listing(10, None), [(140_000, BID_ALONE), (140_001, wide)])?;
             assert_eq!(rt; found, price(120, Step::Quote, 2));
             Ok(())
         }
 
         #[test]
         fn legs(rt: HostRuntime) -> Result<(), Fail> {
-            let trade = Kind::Trade {
-                price: 100,
-                lots: 1,
-            };
             let leg = Kind::Leg {
                 price: 200,
                 lots: 1,
             };
-            let found = closing(listing(11, None), [(130_000, trade), (140_000, leg)])?;
+            let found = closing(listing(11, None), [(130_000, TRADE), (140_000, leg)])?;
             assert_eq!(rt; found, price(100, Step::Trade, 1));
             Ok(())
         }
@@ -238,34 +304,23 @@ mod tests {
         // The spread is near less far, so the far month is the near one less the spread.
         #[test]
         fn spreads(rt: HostRuntime) -> Result<(), Fail> {
-            let mut house = new_house()?;
-            let mut board = Board::new(LawfulDay::new(DAY)?, 2);
-            house.list(listing(1, None))?;
-            house.list(listing(2, Some(0)))?;
-            house.ring(Bell::Open)?;
+            let mut house = trading(&[listing(1, None), listing(2, Some(0))])?;
+            let mut board = new_board(2)?;
             house.enter(&mut board, trade(0, 140_000, 145_200))?;
             house.enter(&mut board, spread(1, 140_000, -30))?;
             house.ring(Bell::Close)?;
-            assert_eq!(rt;
-                house.settle(&board, 1, Edition::Close),
-                price(145_230, Step::Spread, 1)
-            );
+            closes(&rt, &house, &board, 1, price(145_230, Step::Spread, 1));
             Ok(())
         }
 
         // Of two lawful prices equally close, the larger, at negative numbers too.
         #[test]
         fn halves(rt: HostRuntime) -> Result<(), Fail> {
-            let mut house = new_house()?;
-            let board = Board::new(LawfulDay::new(DAY)?, 1);
-            house.list(listing(9, None))?;
-            house.ring(Bell::Open)?;
+            let mut house = trading(&[listing(9, None)])?;
+            let board = new_board(1)?;
             for (theory, rounded) in [(-15, -10), (-16, -20), (15, 20), (14, 10), (-5, 0)] {
                 house.set_theory(0, Some(theory))?;
-                assert_eq!(rt;
-                    house.settle(&board, 0, Edition::Morning),
-                    price(rounded, Step::Theory, 1)
-                );
+                opens(&rt, &house, &board, 0, price(rounded, Step::Theory, 1));
             }
             Ok(())
         }
@@ -273,19 +328,13 @@ mod tests {
         // The closing auction is a trade too: the last one, and with its lots part of the average. (100 + 4 × 200) / 5 is 180.
         #[test]
         fn auctions(rt: HostRuntime) -> Result<(), Fail> {
-            let trade = Kind::Trade {
-                price: 100,
-                lots: 1,
-            };
             let auction = Kind::Auction {
                 price: 200,
                 lots: 4,
             };
-            let entries = [(140_000, trade), (143_400, auction)];
-            assert_eq!(rt;
-                closing(listing(11, None), entries)?,
-                price(200, Step::Trade, 1)
-            );
+            let entries = [(140_000, TRADE), (143_400, auction)];
+            let found = closing(listing(11, None), entries)?;
+            assert_eq!(rt; found, price(200, Step::Trade, 1));
             let marks = Marks {
                 last_day: true,
                 quarter_end: false,
@@ -302,112 +351,63 @@ mod tests {
     // Which series a refusal comes from.
     mod origins {
         use crate::tests::setting::*;
-        use board::boards::Board;
-        use book::books::Book;
-        use book::lawful::LawfulDay;
-        use house::faults::HouseFault;
         use house::phases::Bell;
         use house::terms::Listing;
         use ladders::sets::LadderSet;
-        use rows::places::Edition;
         use rows::steps::Step;
         use std::test::*;
 
         // A copy of a following bond of a leading bond: all three want the leading bond's price.
         #[test]
         fn far_origins(rt: HostRuntime) -> Result<(), Fail> {
-            let mut house = new_house()?;
-            let board = Board::new(LawfulDay::new(DAY)?, 1);
-            house.list(listing(1, None))?;
-            house.list(Listing {
+            let following = Listing {
                 spread: Some(10),
                 ..listing(2, Some(0))
-            })?;
-            house.list(listing(8, Some(1)))?;
-            house.ring(Bell::Open)?;
-            house.ring(Bell::Close)?;
+            };
+            let mut house = closed(&[listing(1, None), following, listing(8, Some(1))])?;
+            let board = new_board(1)?;
             for series in [0, 1, 2] {
-                assert_eq!(rt;
-                    house.settle(&board, series, Edition::Close).err(),
-                    Some(HouseFault::NoPrice(0))
-                );
+                closes(&rt, &house, &board, series, no_price(0));
             }
             house.set_theory(0, Some(100))?;
-            assert_eq!(rt;
-                house.settle(&board, 2, Edition::Close),
-                price(90, Step::Copy, 1)
-            );
+            closes(&rt, &house, &board, 2, price(90, Step::Copy, 1));
             Ok(())
         }
 
         // In the morning a following bond looks at itself alone, so it is the origin of its own refusal and of its copy's.
         #[test]
         fn origins_in_the_morning(rt: HostRuntime) -> Result<(), Fail> {
-            let mut house = new_house()?;
-            let board = Board::new(LawfulDay::new(DAY)?, 1);
-            house.list(listing(1, None))?;
-            house.list(listing(2, Some(0)))?;
-            house.list(listing(8, Some(1)))?;
-            house.ring(Bell::Open)?;
-            assert_eq!(rt;
-                house.settle(&board, 1, Edition::Morning).err(),
-                Some(HouseFault::NoPrice(1))
-            );
-            assert_eq!(rt;
-                house.settle(&board, 2, Edition::Morning).err(),
-                Some(HouseFault::NoPrice(1))
-            );
+            let house = trading(&[listing(1, None), listing(2, Some(0)), listing(8, Some(1))])?;
+            let board = new_board(1)?;
+            for series in [1, 2] {
+                opens(&rt, &house, &board, series, no_price(1));
+            }
             Ok(())
         }
 
         // A grain with no reference is the origin; with one that has no price, the reference is.
         #[test]
         fn origins_of_grain(rt: HostRuntime) -> Result<(), Fail> {
-            let mut house = new_house()?;
-            let board = Board::new(LawfulDay::new(DAY)?, 1);
-            house.list(listing(9, None))?;
-            house.list(listing(13, None))?;
-            house.list(listing(13, Some(0)))?;
-            house.ring(Bell::Open)?;
-            house.ring(Bell::Close)?;
-            assert_eq!(rt;
-                house.settle(&board, 1, Edition::Close).err(),
-                Some(HouseFault::NoPrice(1))
-            );
-            assert_eq!(rt;
-                house.settle(&board, 2, Edition::Close).err(),
-                Some(HouseFault::NoPrice(0))
-            );
-            assert_eq!(rt;
-                house.settle(&board, 2, Edition::Morning).err(),
-                Some(HouseFault::NoPrice(2))
-            );
+            let house = closed(&[listing(9, None), listing(13, None), listing(13, Some(0))])?;
+            let board = new_board(1)?;
+            closes(&rt, &house, &board, 1, no_price(1));
+            closes(&rt, &house, &board, 2, no_price(0));
+            opens(&rt, &house, &board, 2, no_price(2));
             Ok(())
         }
 
         // The reference settles, but there is no spread to it, nor a previous one.
         #[test]
         fn origins_without_a_spread(rt: HostRuntime) -> Result<(), Fail> {
-            let mut house = new_house()?;
-            let board = Board::new(LawfulDay::new(DAY)?, 1);
-            house.list(listing(1, None))?;
-            house.list(listing(2, Some(0)))?;
-            house.list(listing(4, Some(1)))?;
+            let mut house = listed(&[listing(1, None), listing(2, Some(0)), listing(4, Some(1))])?;
+            let board = new_board(1)?;
             house.set_theory(0, Some(100))?;
             house.ring(Bell::Open)?;
             house.ring(Bell::Close)?;
-            assert_eq!(rt;
-                house.settle(&board, 0, Edition::Close),
-                price(100, Step::Theory, 3)
-            );
-            assert_eq!(rt;
-                house.settle(&board, 1, Edition::Close).err(),
-                Some(HouseFault::NoPrice(1))
-            );
-            assert_eq!(rt;
-                house.settle(&board, 2, Edition::Close).err(),
-                Some(HouseFault::NoPrice(1))
-            );
+            closes(&rt, &house, &board, 0, price(100, Step::Theory, 3));
+            for series in [1, 2] {
+                closes(&rt, &house, &board, series, no_price(1));
+            }
             Ok(())
         }
     }
@@ -440,100 +440,93 @@ mod tests {
             },
         };
 
-        // Runs a case on a tape and on a board of so many places.
-        macro_rules! on_both {
-            ($rt:ident, $case:ident, $places:expr) => {{
-                let day = LawfulDay::new(DAY)?;
-                let mut slots = [BLANK; $places];
-                $case(&$rt, &mut Tape::new(day, &mut slots))?;
-                $case(&$rt, &mut Board::new(day, $places))
-            }};
+        // A house of one series of family 1, trading.
+        fn one_trading() -> Result<House<EvenSet>, Fail> {
+            trading(&[listing(1, None)])
         }
 
-        // A house of one series of family 1, trading.
-        fn trading() -> Result<House<EvenSet>, Fail> {
-            let mut house = new_house()?;
-            house.list(listing(1, None))?;
-            house.ring(Bell::Open)?;
-            Ok(house)
+        // Each of the entries is refused with this number.
+        fn entries_tell<B: Book>(
+            rt: &impl Abort,
+            house: &House<EvenSet>,
+            book: &mut B,
+            number: u8,
+            entries: &[(Entry, &str)],
+        ) {
+            for (entry, why) in entries {
+                tells(rt, house.enter(book, *entry), number, why);
+            }
+        }
+
+        // Each of the questions is refused with its number.
+        fn questions_tell<B: Book>(
+            rt: &impl Abort,
+            house: &House<EvenSet>,
+            book: &B,
+            questions: &[(i64, Edition, u8, &str)],
+        ) {
+            for (series, edition, number, why) in questions {
+                tells(rt, house.settle(book, *series, *edition), *number, why);
+            }
         }
 
         #[test]
         fn listings(rt: HostRuntime) -> Result<(), Fail> {
             let mut house = new_house()?;
-            assert_eq!(rt; refusal(house.list(listing(0, None))), 5);
+            tells(&rt, house.list(listing(0, None)), 5, "no such family");
             for number in 0..32u8 {
                 assert_eq!(rt; house.list(listing(1, None))?, number);
             }
-            assert_eq!(rt; refusal(house.list(listing(1, None))), 3);
-            assert_eq!(rt; refusal(house.list(listing(0, None))), 3, "3 before 5");
+            tells(&rt, house.list(listing(1, None)), 3, "a 33rd series");
+            tells(&rt, house.list(listing(0, None)), 3, "3 before 5");
             house.ring(Bell::Open)?;
-            assert_eq!(rt; refusal(house.list(listing(1, None))), 2, "2 before 3");
-            assert_eq!(rt;
-                refusal(house.list(listing(0, None))),
-                2,
-                "2 before 3 and 5"
-            );
+            tells(&rt, house.list(listing(1, None)), 2, "2 before 3");
+            tells(&rt, house.list(listing(0, None)), 2, "2 before 3 and 5");
             Ok(())
         }
 
         #[test]
         fn listings_after_the_bells(rt: HostRuntime) -> Result<(), Fail> {
-            let mut house = trading()?;
-            assert_eq!(rt; refusal(house.list(listing(1, None))), 2);
-            assert_eq!(rt; refusal(house.list(listing(0, None))), 2, "2 before 5");
+            let mut house = one_trading()?;
+            tells(&rt, house.list(listing(1, None)), 2, "trading");
+            tells(&rt, house.list(listing(0, None)), 2, "2 before 5");
             house.ring(Bell::Close)?;
-            assert_eq!(rt; refusal(house.list(listing(1, None))), 2);
-            assert_eq!(rt; refusal(house.list(listing(0, None))), 2, "2 before 5");
+            tells(&rt, house.list(listing(1, None)), 2, "closed");
+            tells(&rt, house.list(listing(0, None)), 2, "2 before 5");
             Ok(())
         }
 
         #[test]
         fn bells(rt: HostRuntime) -> Result<(), Fail> {
             let mut house = new_house()?;
-            assert_eq!(rt; refusal(house.ring(Bell::Close)), 2);
+            tells(&rt, house.ring(Bell::Close), 2, "close while listing");
             house.ring(Bell::Open)?;
-            assert_eq!(rt; refusal(house.ring(Bell::Open)), 2);
+            tells(&rt, house.ring(Bell::Open), 2, "open while trading");
             house.ring(Bell::Close)?;
-            assert_eq!(rt; refusal(house.ring(Bell::Open)), 2);
-            assert_eq!(rt; refusal(house.ring(Bell::Close)), 2);
+            tells(&rt, house.ring(Bell::Open), 2, "open when closed");
+            tells(&rt, house.ring(Bell::Close), 2, "close when closed");
             Ok(())
         }
 
         // Before the open bell and after the close bell.
         fn entries_out_of_phase<B: Book>(rt: &impl Abort, book: &mut B) -> Result<(), Fail> {
-            let mut house = new_house()?;
-            house.list(listing(1, None))?;
-            assert_eq!(rt; refusal(house.enter(book, TRADE)), 2);
-            assert_eq!(rt;
-                refusal(house.enter(book, trade(1, 140_000, 100))),
-                2,
-                "2 before 4"
-            );
-            assert_eq!(rt;
-                refusal(house.enter(book, trade(0, 140_000, 2_000_000_000))),
-                2,
-                "2 before 6"
-            );
-            assert_eq!(rt;
-                refusal(house.enter(book, trade(0, 140_000, 101))),
-                2,
-                "2 before 7"
-            );
-            assert_eq!(rt;
-                refusal(house.enter(book, spread(0, 140_000, 10))),
-                2,
-                "2 before 8"
-            );
+            let mut house = listed(&[listing(1, None)])?;
+            let early = [
+                (TRADE, "while listing"),
+                (trade(1, 140_000, 100), "2 before 4"),
+                (trade(0, 140_000, 2_000_000_000), "2 before 6"),
+                (trade(0, 140_000, 101), "2 before 7"),
+                (spread(0, 140_000, 10), "2 before 8"),
+            ];
+            entries_tell(rt, &house, book, 2, &early);
             house.ring(Bell::Open)?;
             house.enter(book, TRADE)?;
             house.ring(Bell::Close)?;
-            assert_eq!(rt; refusal(house.enter(book, TRADE)), 2, "2 before 9");
-            assert_eq!(rt;
-                refusal(house.enter(book, trade(1, 140_000, 100))),
-                2,
-                "2 before 4"
-            );
+            let late = [
+                (TRADE, "2 before 9"),
+                (trade(1, 140_000, 100), "2 before 4, when closed"),
+            ];
+            entries_tell(rt, &house, book, 2, &late);
             assert_eq!(rt; book.count(), 1);
             Ok(())
         }
@@ -544,24 +537,15 @@ mod tests {
         }
 
         fn entries_of_no_series<B: Book>(rt: &impl Abort, book: &mut B) -> Result<(), Fail> {
-            let house = trading()?;
+            let house = one_trading()?;
             for series in [1, 31, 32, 40, -1, 256, i64::MAX, i64::MIN] {
-                assert_eq!(rt; refusal(house.enter(book, trade(series, 140_000, 100))), 4);
-                assert_eq!(rt;
-                    refusal(house.enter(book, trade(series, 140_000, 2_000_000_000))),
-                    4,
-                    "4 before 6"
-                );
-                assert_eq!(rt;
-                    refusal(house.enter(book, trade(series, 140_000, 101))),
-                    4,
-                    "4 before 7"
-                );
-                assert_eq!(rt;
-                    refusal(house.enter(book, spread(series, 140_000, 10))),
-                    4,
-                    "4 before 8"
-                );
+                let entries = [
+                    (trade(series, 140_000, 100), "no such series"),
+                    (trade(series, 140_000, 2_000_000_000), "4 before 6"),
+                    (trade(series, 140_000, 101), "4 before 7"),
+                    (spread(series, 140_000, 10), "4 before 8"),
+                ];
+                entries_tell(rt, &house, book, 4, &entries);
             }
             assert_eq!(rt; book.count(), 0);
             Ok(())
@@ -574,48 +558,25 @@ mod tests {
 
         // What the book refuses with 6 comes before the ladder and before the family.
         fn entries_beyond_limits<B: Book>(rt: &impl Abort, book: &mut B) -> Result<(), Fail> {
-            let house = trading()?;
-            assert_eq!(rt; refusal(house.enter(book, trade(0, 59_999, 100))), 6);
-            assert_eq!(rt; refusal(house.enter(book, trade(0, 143_401, 100))), 6);
-            assert_eq!(rt;
-                refusal(house.enter(book, trade(0, 140_000, 1_000_000_010))),
-                6
-            );
-            assert_eq!(rt;
-                refusal(house.enter(book, quote(0, 140_000, Some(100), Some(100)))),
-                6,
-                "crossed"
-            );
-            assert_eq!(rt;
-                refusal(house.enter(book, trade(0, 140_000, 1_000_000_001))),
-                6,
-                "6 before 7"
-            );
-            assert_eq!(rt;
-                refusal(house.enter(book, trade(0, 59_999, 101))),
-                6,
-                "6 before 7"
-            );
-            assert_eq!(rt;
-                refusal(house.enter(book, spread(0, 140_000, 100_000_001))),
-                6,
-                "6 before 8"
-            );
-            assert_eq!(rt;
-                refusal(house.enter(book, spread(0, 143_401, 10))),
-                6,
-                "6 before 8"
-            );
+            let house = one_trading()?;
+            let entries = [
+                (trade(0, 59_999, 100), "before the night opening"),
+                (trade(0, 143_401, 100), "after the close"),
+                (trade(0, 140_000, 1_000_000_010), "past the price limit"),
+                (quote(0, 140_000, Some(100), Some(100)), "crossed"),
+                (trade(0, 140_000, 1_000_000_001), "6 before 7: price"),
+                (trade(0, 59_999, 101), "6 before 7: stamp"),
+                (spread(0, 140_000, 100_000_001), "6 before 8: spread"),
+                (spread(0, 143_401, 10), "6 before 8: stamp"),
+            ];
+            entries_tell(rt, &house, book, 6, &entries);
             assert_eq!(rt; book.count(), 0);
             Ok(())
         }
 
         // Limits of each kind of entry: prices, lots, sides and spreads.
         fn kinds_beyond_limits<B: Book>(rt: &impl Abort, book: &mut B) -> Result<(), Fail> {
-            let mut house = new_house()?;
-            house.list(listing(1, None))?;
-            house.list(listing(2, Some(0)))?;
-            house.ring(Bell::Open)?;
+            let house = trading(&[listing(1, None), listing(2, Some(0))])?;
             let price = 1_000_000_010;
             let far = [
                 Kind::Auction { price, lots: 1 },
@@ -634,13 +595,11 @@ mod tests {
                 },
             ];
             for kind in far {
-                assert_eq!(rt; refusal(house.enter(book, entry(0, 140_000, kind))), 6);
+                tells(rt, house.enter(book, entry(0, 140_000, kind)), 6, "a limit");
             }
             for difference in [100_000_001, -100_000_001] {
-                assert_eq!(rt;
-                    refusal(house.enter(book, spread(1, 140_000, difference))),
-                    6
-                );
+                let far = spread(1, 140_000, difference);
+                tells(rt, house.enter(book, far), 6, "the limit of spreads");
             }
             assert_eq!(rt; book.count(), 0);
             Ok(())
@@ -654,19 +613,17 @@ mod tests {
 
         // Refused calls of every kind, and then the same answer as before them.
         fn refused_leave_all<B: Book>(rt: &impl Abort, book: &mut B) -> Result<(), Fail> {
-            let mut house = trading()?;
+            let mut house = one_trading()?;
             house.set_ruling(0, Some(90), false)?;
             house.enter(book, trade(0, 120_000, 100))?;
-            assert_eq!(rt; refusal(house.ring(Bell::Open)), 2);
-            assert_eq!(rt; refusal(house.list(listing(1, None))), 2);
-            assert_eq!(rt; refusal(house.enter(book, trade(0, 121_000, 105))), 7);
-            assert_eq!(rt; refusal(house.enter(book, trade(0, 121_000, 110))), 9);
-            assert_eq!(rt; refusal(house.set_theory(0, Some(1_000_000_001))), 6);
-            assert_eq!(rt; refusal(house.set_ruling(0, None, true)), 6);
-            assert_eq!(rt;
-                house.settle(book, 0, Edition::Morning),
-                price(100, Step::Trade, 1)
-            );
+            tells(rt, house.ring(Bell::Open), 2, "a bell");
+            tells(rt, house.list(listing(1, None)), 2, "a listing");
+            let (off, late) = (trade(0, 121_000, 105), trade(0, 121_000, 110));
+            tells(rt, house.enter(book, off), 7, "off the ladder");
+            tells(rt, house.enter(book, late), 9, "a full book");
+            tells(rt, house.set_theory(0, Some(1_000_000_001)), 6, "theory");
+            tells(rt, house.set_ruling(0, None, true), 6, "a ruling");
+            opens(rt, &house, book, 0, price(100, Step::Trade, 1));
             Ok(())
         }
 
@@ -677,34 +634,21 @@ mod tests {
 
         // On tick 10, 101 is no price. A spread is no price, and for family 2 only.
         fn entries_off_the_ladder<B: Book>(rt: &impl Abort, book: &mut B) -> Result<(), Fail> {
-            let house = trading()?;
+            let house = one_trading()?;
             let (price, lots) = (101, 1);
-            assert_eq!(rt; refusal(house.enter(book, trade(0, 140_000, price))), 7);
-            assert_eq!(rt;
-                refusal(house.enter(book, entry(0, 140_000, Kind::Auction { price, lots }))),
-                7
-            );
-            assert_eq!(rt;
-                refusal(house.enter(book, entry(0, 140_000, Kind::Leg { price, lots }))),
-                7
-            );
-            assert_eq!(rt;
-                refusal(house.enter(book, quote(0, 140_000, Some(101), Some(110)))),
-                7
-            );
-            assert_eq!(rt;
-                refusal(house.enter(book, quote(0, 140_000, Some(100), Some(101)))),
-                7
-            );
-            assert_eq!(rt;
-                refusal(house.enter(book, quote(0, 140_000, None, Some(101)))),
-                7
-            );
-            assert_eq!(rt;
-                refusal(house.enter(book, quote(0, 140_000, Some(101), None))),
-                7
-            );
-            assert_eq!(rt; refusal(house.enter(book, spread(0, 140_000, 10))), 8);
+            let auction = Kind::Auction { price, lots };
+            let leg = Kind::Leg { price, lots };
+            let entries = [
+                (trade(0, 140_000, price), "a trade"),
+                (entry(0, 140_000, auction), "an auction"),
+                (entry(0, 140_000, leg), "a leg"),
+                (quote(0, 140_000, Some(101), Some(110)), "a bid"),
+                (quote(0, 140_000, Some(100), Some(101)), "an ask"),
+                (quote(0, 140_000, None, Some(101)), "an ask alone"),
+                (quote(0, 140_000, Some(101), None), "a bid alone"),
+            ];
+            entries_tell(rt, &house, book, 7, &entries);
+            tells(rt, house.enter(book, spread(0, 140_000, 10)), 8, "family 1");
             house.enter(book, quote(0, 140_000, Some(-100), Some(1_000_000_000)))?;
             house.enter(book, quote(0, 140_000, None, None))?;
             assert_eq!(rt; book.count(), 2);
@@ -718,33 +662,19 @@ mod tests {
 
         // A full book is told last.
         fn entries_into_a_full_book<B: Book>(rt: &impl Abort, book: &mut B) -> Result<(), Fail> {
-            let house = trading()?;
+            let house = one_trading()?;
             house.enter(book, TRADE)?;
-            assert_eq!(rt;
-                house.enter(book, TRADE).err(),
-                Some(HouseFault::Book(BookFault::Full))
-            );
-            assert_eq!(rt; refusal(house.enter(book, TRADE)), 9);
-            assert_eq!(rt;
-                refusal(house.enter(book, trade(1, 140_000, 100))),
-                4,
-                "4 before 9"
-            );
-            assert_eq!(rt;
-                refusal(house.enter(book, trade(0, 143_401, 100))),
-                6,
-                "6 before 9"
-            );
-            assert_eq!(rt;
-                refusal(house.enter(book, spread(0, 140_000, 10))),
-                8,
-                "8 before 9"
-            );
-            assert_eq!(rt;
-                refusal(house.enter(book, trade(0, 140_000, 101))),
-                7,
-                "7 before 9"
-            );
+            let full = HouseFault::Book(BookFault::Full);
+            assert_eq!(rt; house.enter(book, TRADE).err(), Some(full));
+            for (late, number, why) in [
+                (TRADE, 9, "full"),
+                (trade(1, 140_000, 100), 4, "4 before 9"),
+                (trade(0, 143_401, 100), 6, "6 before 9"),
+                (spread(0, 140_000, 10), 8, "8 before 9"),
+                (trade(0, 140_000, 101), 7, "7 before 9"),
+            ] {
+                tells(rt, house.enter(book, late), number, why);
+            }
             assert_eq!(rt; book.count(), 1);
             Ok(())
         }
@@ -756,60 +686,56 @@ mod tests {
 
         #[test]
         fn theory_values_and_rulings(rt: HostRuntime) -> Result<(), Fail> {
-            let mut house = trading()?;
-            assert_eq!(rt; refusal(house.set_theory(1, Some(100))), 4);
-            assert_eq!(rt; refusal(house.set_theory(-1, None)), 4);
-            assert_eq!(rt;
-                refusal(house.set_theory(1, Some(1_000_000_001))),
-                4,
-                "4 before 6"
-            );
-            assert_eq!(rt; refusal(house.set_theory(0, Some(1_000_000_001))), 6);
-            assert_eq!(rt; refusal(house.set_theory(0, Some(-1_000_000_001))), 6);
-            assert_eq!(rt; refusal(house.set_ruling(1, Some(100), true)), 4);
-            assert_eq!(rt; refusal(house.set_ruling(-1, None, true)), 4, "4 before 6");
-            assert_eq!(rt;
-                refusal(house.set_ruling(1, Some(1_000_000_001), false)),
-                4,
-                "4 before 6"
-            );
-            assert_eq!(rt; refusal(house.set_ruling(0, Some(1_000_000_001), false)), 6);
-            assert_eq!(rt; refusal(house.set_ruling(0, Some(-1_000_000_001), true)), 6);
-            assert_eq!(rt;
-                refusal(house.set_ruling(0, None, true)),
-                6,
-                "a cleared ruling with a first mark"
-            );
+            let mut house = one_trading()?;
+            for (series, value, number, why) in [
+                (1, Some(100), 4, "no such series"),
+                (-1, None, 4, "no such series, cleared"),
+                (1, Some(1_000_000_001), 4, "4 before 6"),
+                (0, Some(1_000_000_001), 6, "past the limit"),
+                (0, Some(-1_000_000_001), 6, "past the limit below 0"),
+            ] {
+                tells(&rt, house.set_theory(series, value), number, why);
+            }
+            for (series, value, first, number, why) in [
+                (1, Some(100), true, 4, "no such series"),
+                (-1, None, true, 4, "4 before 6, cleared"),
+                (1, Some(1_000_000_001), false, 4, "4 before 6"),
+                (0, Some(1_000_000_001), false, 6, "past the limit"),
+                (0, Some(-1_000_000_001), true, 6, "past the limit below 0"),
+                (0, None, true, 6, "a cleared ruling with a first mark"),
+            ] {
+                tells(&rt, house.set_ruling(series, value, first), number, why);
+            }
             house.set_ruling(0, Some(90), false)?;
             house.ring(Bell::Close)?;
-            assert_eq!(rt; refusal(house.set_theory(1, None)), 4, "when closed");
-            assert_eq!(rt; refusal(house.set_ruling(0, None, true)), 6, "when closed");
+            tells(&rt, house.set_theory(1, None), 4, "when closed");
+            tells(&rt, house.set_ruling(0, None, true), 6, "when closed");
             Ok(())
         }
 
         fn questions_out_of_phase<B: Book>(rt: &impl Abort, book: &mut B) -> Result<(), Fail> {
-            let mut house = new_house()?;
-            house.list(listing(1, None))?;
-            assert_eq!(rt; refusal(house.settle(book, 0, Edition::Morning)), 2);
-            assert_eq!(rt;
-                refusal(house.settle(book, 1, Edition::Close)),
-                2,
-                "2 before 4"
-            );
+            let mut house = listed(&[listing(1, None)])?;
+            let early = [
+                (0, Edition::Morning, 2, "while listing"),
+                (1, Edition::Close, 2, "2 before 4, while listing"),
+            ];
+            questions_tell(rt, &house, book, &early);
             house.ring(Bell::Open)?;
-            assert_eq!(rt; refusal(house.settle(book, 0, Edition::Close)), 2);
-            assert_eq!(rt;
-                refusal(house.settle(book, 1, Edition::Close)),
-                2,
-                "2 before 4"
-            );
-            assert_eq!(rt; refusal(house.settle(book, 1, Edition::Morning)), 4);
-            assert_eq!(rt; refusal(house.settle(book, 0, Edition::Morning)), 10);
+            let trading = [
+                (0, Edition::Close, 2, "while trading"),
+                (1, Edition::Close, 2, "2 before 4, while trading"),
+                (1, Edition::Morning, 4, "no such series, while trading"),
+                (0, Edition::Morning, 10, "no price, while trading"),
+            ];
+            questions_tell(rt, &house, book, &trading);
             house.ring(Bell::Close)?;
-            assert_eq!(rt; refusal(house.settle(book, 0, Edition::Close)), 10);
-            assert_eq!(rt; refusal(house.settle(book, 0, Edition::Morning)), 10);
-            assert_eq!(rt; refusal(house.settle(book, 1, Edition::Close)), 4);
-            assert_eq!(rt; refusal(house.settle(book, -1, Edition::Morning)), 4);
+            let late = [
+                (0, Edition::Close, 10, "no price"),
+                (0, Edition::Morning, 10, "no price in the morning"),
+                (1, Edition::Close, 4, "no such series"),
+                (-1, Edition::Morning, 4, "no such series in the morning"),
+            ];
+            questions_tell(rt, &house, book, &late);
             Ok(())
         }
 
@@ -825,7 +751,6 @@ mod tests {
         use board::boards::Board;
         use book::books::Book;
         use book::entries::Kind;
-        use book::lawful::LawfulDay;
         use house::houses::House;
         use house::phases::Bell;
         use house::terms::Listing;
@@ -940,31 +865,20 @@ mod tests {
             }
         }
 
-        // Families 2, 4, 8 and 13 refer to series 0.
-        fn reference_of(family: i64) -> Option<i64> {
-            match family {
-                2 | 4 | 8 | 13 => Some(0),
-                _ => None,
-            }
-        }
-
-        // A house with the series that is walked, numbered 1, and what is known without entries of the places counted from `from`.
+        // A house with the series that is walked, numbered 1, and all that the places from `from` on need beside entries.
         fn prepared(
             family: i64,
             marks: Marks,
             row: &str,
             from: usize,
         ) -> Result<House<EvenSet>, Fail> {
-            let mut house = new_house()?;
-            house.list(listing(1, None))?;
-            let settlement = if has(row, from, "B") { Some(480) } else { None };
-            let spread = if has(row, from, "P") { Some(-40) } else { None };
-            house.list(Listing {
-                settlement,
-                spread,
+            let walked = Listing {
+                settlement: has(row, from, "B").then_some(480),
+                spread: has(row, from, "P").then_some(-40),
                 marks,
                 ..listing(family, reference_of(family))
-            })?;
+            };
+            let mut house = listed(&[listing(1, None), walked])?;
             if has(row, from, "S") || has(row, from, "P") || has(row, from, "C") {
                 house.set_ruling(0, Some(1000), true)?;
             }
@@ -978,8 +892,8 @@ mod tests {
             Ok(house)
         }
 
-        // Entries for the places from `from` on, each in the first second of its window, and for the place before these just outside
-        // its window. Those count as trades elsewhere, so they have a trade's price.
+        // Entries for the places from `from` on, each in the first second of its window, and for the place before these just
+        // outside its window. Those count as trades elsewhere, so they have a trade's price.
         fn enter_for(
             house: &House<EvenSet>,
             board: &mut Board,
@@ -1020,7 +934,7 @@ mod tests {
             from: usize,
         ) -> Result<(), Fail> {
             let mut house = prepared(family, marks, row, from)?;
-            let mut board = Board::new(LawfulDay::new(DAY)?, 16);
+            let mut board = new_board(16)?;
             enter_for(&house, &mut board, row, from)?;
             house.ring(Bell::Close)?;
             match (house.settle(&board, 1, edition), row.split(' ').nth(from)) {
@@ -1108,22 +1022,16 @@ mod tests {
     // Theory values and rulings.
     mod supplied {
         use crate::tests::setting::*;
-        use board::boards::Board;
-        use book::books::Book;
-        use book::lawful::LawfulDay;
         use house::phases::Bell;
         use ladders::sets::LadderSet;
-        use rows::places::Edition;
         use rows::steps::Step;
         use std::test::*;
 
         // A ruling with the first mark comes before every step, also of a row without D, and off the ladder.
         #[test]
         fn first_rulings(rt: HostRuntime) -> Result<(), Fail> {
-            let mut house = new_house()?;
-            let board = Board::new(LawfulDay::new(DAY)?, 1);
-            house.list(listing(9, None))?;
-            house.list(listing(7, None))?;
+            let mut house = listed(&[listing(9, None), listing(7, None)])?;
+            let board = new_board(1)?;
             for series in [0, 1] {
                 house.set_theory(series, Some(100))?;
                 house.set_ruling(series, Some(-7), true)?;
@@ -1131,19 +1039,10 @@ mod tests {
             house.ring(Bell::Open)?;
             house.ring(Bell::Close)?;
             for series in [0, 1] {
-                assert_eq!(rt;
-                    house.settle(&board, series, Edition::Close),
-                    price(-7, Step::Ruling, 0)
-                );
-                assert_eq!(rt;
-                    house.settle(&board, series, Edition::Morning),
-                    price(-7, Step::Ruling, 0)
-                );
+                closes(&rt, &house, &board, series, price(-7, Step::Ruling, 0));
+                opens(&rt, &house, &board, series, price(-7, Step::Ruling, 0));
                 house.set_ruling(series, Some(-7), false)?;
-                assert_eq!(rt;
-                    house.settle(&board, series, Edition::Close),
-                    price(100, Step::Theory, 1)
-                );
+                closes(&rt, &house, &board, series, price(100, Step::Theory, 1));
             }
             Ok(())
         }
@@ -1152,68 +1051,38 @@ mod tests {
         // and has L8 D B in the morning.
         #[test]
         fn later_rulings(rt: HostRuntime) -> Result<(), Fail> {
-            let mut house = new_house()?;
-            let board = Board::new(LawfulDay::new(DAY)?, 1);
-            house.list(listing(7, None))?;
-            house.list(listing(1, None))?;
-            house.ring(Bell::Open)?;
-            house.ring(Bell::Close)?;
+            let mut house = closed(&[listing(7, None), listing(1, None)])?;
+            let board = new_board(1)?;
             for series in [0, 1] {
                 house.set_ruling(series, Some(95), false)?;
             }
-            assert_eq!(rt;
-                house.settle(&board, 0, Edition::Close),
-                price(95, Step::Ruling, 2)
-            );
-            assert_eq!(rt; refusal(house.settle(&board, 1, Edition::Close)), 10);
-            assert_eq!(rt;
-                house.settle(&board, 1, Edition::Morning),
-                price(95, Step::Ruling, 2)
-            );
+            closes(&rt, &house, &board, 0, price(95, Step::Ruling, 2));
+            closes(&rt, &house, &board, 1, no_price(1));
+            opens(&rt, &house, &board, 1, price(95, Step::Ruling, 2));
             house.set_ruling(0, Some(96), true)?;
-            assert_eq!(rt;
-                house.settle(&board, 0, Edition::Close),
-                price(96, Step::Ruling, 0)
-            );
+            closes(&rt, &house, &board, 0, price(96, Step::Ruling, 0));
             house.set_ruling(0, None, false)?;
-            assert_eq!(rt;
-                refusal(house.settle(&board, 0, Edition::Close)),
-                10,
-                "cleared"
-            );
+            closes(&rt, &house, &board, 0, no_price(0));
             Ok(())
         }
 
         // A theory value may be set, replaced and cleared in every phase; a refused one leaves the old.
         #[test]
         fn theory_values(rt: HostRuntime) -> Result<(), Fail> {
-            let mut house = new_house()?;
-            let board = Board::new(LawfulDay::new(DAY)?, 1);
-            house.list(listing(15, None))?;
+            let mut house = listed(&[listing(15, None)])?;
+            let board = new_board(1)?;
             house.set_theory(0, Some(101))?;
             house.ring(Bell::Open)?;
-            assert_eq!(rt;
-                house.settle(&board, 0, Edition::Morning),
-                price(110, Step::TheoryUp, 1)
-            );
+            opens(&rt, &house, &board, 0, price(110, Step::TheoryUp, 1));
             house.set_theory(0, Some(-101))?;
             house.ring(Bell::Close)?;
-            assert_eq!(rt;
-                house.settle(&board, 0, Edition::Close),
-                price(-100, Step::TheoryUp, 1)
-            );
-            assert_eq!(rt; refusal(house.set_theory(0, Some(1_000_000_001))), 6);
-            assert_eq!(rt;
-                house.settle(&board, 0, Edition::Close),
-                price(-100, Step::TheoryUp, 1)
-            );
+            closes(&rt, &house, &board, 0, price(-100, Step::TheoryUp, 1));
+            tells(&rt, house.set_theory(0, Some(1_000_000_001)), 6, "limit");
+            closes(&rt, &house, &board, 0, price(-100, Step::TheoryUp, 1));
             house.set_theory(0, Some(120))?;
-            assert_eq!(rt;
-                house.settle(&board, 0, Edition::Close),
-                price(120, Step::TheoryUp, 1)
-            );
+            closes(&rt, &house, &board, 0, price(120, Step::TheoryUp, 1));
             house.set_theory(0, None)?;
-            assert_eq!(rt; refusal(house.settle(&board, 0, Edition::Close)), 10);
+            closes(&rt, &house, &board, 0, no_price(0));
             Ok(())
         }
     }
@@ -1230,7 +1099,7 @@ mod tests {
         fn families(rt: HostRuntime) -> Result<(), Fail> {
             let mut house = new_house()?;
             for family in [0, 16, -1, 256 + 1, i64::MIN] {
-                assert_eq!(rt; refusal(house.list(listing(family, None))), 5);
+                tells(&rt, house.list(listing(family, None)), 5, "no such family");
             }
             assert_eq!(rt; house.list(listing(1, None))?, 0);
             assert_eq!(rt; house.list(listing(15, None))?, 1);
@@ -1240,17 +1109,16 @@ mod tests {
         // Families 2, 4 and 8 need a reference, family 13 may have one, the others may not.
         #[test]
         fn references(rt: HostRuntime) -> Result<(), Fail> {
-            let mut house = new_house()?;
-            house.list(listing(1, None))?;
+            let mut house = listed(&[listing(1, None)])?;
             for family in [2, 4, 8] {
-                assert_eq!(rt; refusal(house.list(listing(family, None))), 5);
-                assert_eq!(rt; refusal(house.list(listing(family, Some(0)))), 0);
+                tells(&rt, house.list(listing(family, None)), 5, "needs one");
+                tells(&rt, house.list(listing(family, Some(0))), 0, "has one");
             }
             assert_eq!(rt; house.list(listing(13, None))?, 4);
             assert_eq!(rt; house.list(listing(13, Some(0)))?, 5);
             for family in [1, 3, 5, 6, 7, 9, 10, 11, 12, 14, 15] {
-                assert_eq!(rt; refusal(house.list(listing(family, Some(0)))), 5);
-                assert_eq!(rt; refusal(house.list(listing(family, None))), 0);
+                tells(&rt, house.list(listing(family, Some(0))), 5, "has one");
+                tells(&rt, house.list(listing(family, None)), 0, "has none");
             }
             Ok(())
         }
@@ -1260,12 +1128,13 @@ mod tests {
         fn earlier_references(rt: HostRuntime) -> Result<(), Fail> {
             let mut house = new_house()?;
             for family in [2, 4, 8, 13] {
-                assert_eq!(rt; refusal(house.list(listing(family, Some(0)))), 5);
+                tells(&rt, house.list(listing(family, Some(0))), 5, "itself");
             }
             house.list(listing(1, None))?;
             for family in [2, 4, 8, 13] {
                 for reference in [1, 2, -1, 256, i64::MAX] {
-                    assert_eq!(rt; refusal(house.list(listing(family, Some(reference)))), 5);
+                    let terms = listing(family, Some(reference));
+                    tells(&rt, house.list(terms), 5, "not earlier");
                 }
             }
             assert_eq!(rt; house.list(listing(2, Some(0)))?, 1);
@@ -1276,53 +1145,50 @@ mod tests {
         // Only family 2 has a previous spread, and needs none.
         #[test]
         fn previous_spreads(rt: HostRuntime) -> Result<(), Fail> {
-            let mut house = new_house()?;
-            house.list(listing(1, None))?;
+            let mut house = listed(&[listing(1, None)])?;
             for family in 1..16 {
-                let reference = match family {
-                    2 | 4 | 8 | 13 => Some(0),
-                    _ => None,
-                };
                 let terms = Listing {
                     spread: Some(0),
-                    ..listing(family, reference)
+                    ..listing(family, reference_of(family))
                 };
-                assert_eq!(rt; refusal(house.list(terms)), if family == 2 { 0 } else { 5 });
+                let number = if family == 2 { 0 } else { 5 };
+                tells(&rt, house.list(terms), number, "by its family");
             }
-            for spread in [100_000_000, -100_000_000, 100_000_001, -100_000_001] {
+            for (spread, number) in [
+                (100_000_000, 0),
+                (-100_000_000, 0),
+                (100_000_001, 5),
+                (-100_000_001, 5),
+            ] {
                 let terms = Listing {
                     spread: Some(spread),
                     ..listing(2, Some(0))
                 };
-                let lawful = (-100_000_000 <= spread) & (spread <= 100_000_000);
-                assert_eq!(rt; refusal(house.list(terms)), if lawful { 0 } else { 5 });
+                tells(&rt, house.list(terms), number, "by the limit");
             }
             assert_eq!(rt; house.list(listing(2, Some(0)))?, 4);
             Ok(())
         }
 
+        // At the limit, off the ladder, and past the limit.
         #[test]
         fn previous_settlements(rt: HostRuntime) -> Result<(), Fail> {
             let mut house = new_house()?;
-            for value in [1_000_000_000, -1_000_000_000, 0, 7] {
-                let settlement = Some(value);
+            for (value, number) in [
+                (1_000_000_000, 0),
+                (-1_000_000_000, 0),
+                (0, 0),
+                (7, 0),
+                (1_000_000_001, 5),
+                (-1_000_000_001, 5),
+                (i64::MAX, 5),
+                (i64::MIN, 5),
+            ] {
                 let terms = Listing {
-                    settlement,
+                    settlement: Some(value),
                     ..listing(12, None)
                 };
-                assert_eq!(rt;
-                    refusal(house.list(terms)),
-                    0,
-                    "at the limit, and off the ladder"
-                );
-            }
-            for value in [1_000_000_001, -1_000_000_001, i64::MAX, i64::MIN] {
-                let settlement = Some(value);
-                let terms = Listing {
-                    settlement,
-                    ..listing(12, None)
-                };
-                assert_eq!(rt; refusal(house.list(terms)), 5, "past the limit");
+                tells(&rt, house.list(terms), number, "by the limit");
             }
             assert_eq!(rt; house.list(listing(12, None))?, 4);
             Ok(())
@@ -1337,7 +1203,7 @@ mod tests {
                     ladder,
                     ..listing(1, None)
                 };
-                assert_eq!(rt; refusal(house.list(terms)), number);
+                tells(&rt, house.list(terms), number, "by its ladder");
             }
             house.ring(Bell::Open)?;
             Ok(())
