@@ -14,7 +14,7 @@ use house::terms::Listing;
 use ladders::sets::EvenSet;
 use rows::places::{Edition, Marks};
 use std::env;
-use tape::tapes::Tape;
+use tape::tapes::{BLANK, Tape};
 
 const DAY: Day = Day {
     night: 61_200,
@@ -37,13 +37,6 @@ const LISTING: Listing = Listing {
         last_day: false,
         quarter_end: false,
     },
-};
-
-// What stands in a place of the tape before it is used.
-const BLANK: Entry = Entry {
-    series: 0,
-    stamp: 0,
-    kind: Kind::Leg { price: 0, lots: 0 },
 };
 
 // The entry of a number: the series take turns, and the stamps go through the day session.

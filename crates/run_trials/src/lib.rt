@@ -20,7 +20,7 @@ mod tests {
     use runs::calls::Call;
     use runs::comparing::{Run, compare, compare_makes};
     use std::test::Fail;
-    use tape::tapes::Tape;
+    use tape::tapes::{BLANK, Tape};
 
     const DAY: Day = Day {
         night: 61_200,
@@ -89,12 +89,7 @@ mod tests {
         }];
         let even = EvenSet::new(&[10i64])?;
         let stepped = SteppedSet::new(&[&bands[0..1]])?;
-        let leg = Kind::Leg { price: 0, lots: 0 };
-        let mut places = [Entry {
-            series: 0,
-            stamp: 0,
-            kind: leg,
-        }; 8];
+        let mut slots = [BLANK; 8];
         let day = LawfulDay::new(DAY)?;
         Ok(compare_makes(
             day,
@@ -102,7 +97,7 @@ mod tests {
             30_000,
             calls,
             stepped,
-            &mut places,
+            &mut slots,
             others,
             series,
             Edition::Close,
@@ -201,16 +196,11 @@ mod tests {
     #[test]
     fn houses_and_books_hold_the_end_of_their_runs(rt: HostRuntime) -> Result<(), Fail> {
         let day = LawfulDay::new(DAY)?;
-        let leg = Kind::Leg { price: 0, lots: 0 };
-        let mut places = [Entry {
-            series: 0,
-            stamp: 0,
-            kind: leg,
-        }; 8];
+        let mut slots = [BLANK; 8];
         let mut house = House::new(EvenSet::new(&[10i64])?);
         let mut board = Board::new(day, 8);
         let mut other = House::new(EvenSet::new(&[10i64])?);
-        let mut tape = Tape::new(day, &mut places);
+        let mut tape = Tape::new(day, &mut slots);
         let calls = [list(1, None), OPEN, trade(0, 50), CLOSE];
         let others = [list(1, None), OPEN, trade(0, 50), trade(0, 60)];
         let first = Run {
