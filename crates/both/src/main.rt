@@ -7,7 +7,7 @@ mod reading;
 mod showing;
 
 use crate::reading::{Opening, call_of, opening_of};
-use crate::showing::{Answer, Replied, Told};
+use crate::showing::{Replied, Told};
 use anyhow::anyhow;
 use board::boards::Board;
 use book::books::Book;
@@ -18,7 +18,7 @@ use ladders::faults::LadderFault;
 use ladders::sets::{EvenSet, LadderSet, SteppedSet};
 use rows::places::Edition;
 use runs::calls::{Call, Reply};
-use runs::comparing::compare_makes;
+use runs::comparing::{Answers, compare_makes};
 use runs::performing::perform;
 use tape::tapes::{BLANK, Tape};
 
@@ -87,7 +87,7 @@ fn ask(
     calls: &[Call],
     series: i64,
     edition: Edition,
-) -> (Answer, Answer) {
+) -> Answers {
     let mut slots = [BLANK; PLACES];
     compare_makes(
         day, even, PLACES, calls, stepped, &mut slots, calls, series, edition,
