@@ -6,7 +6,7 @@ use anyhow::{Context, anyhow};
 use board::boards::Board;
 use book::books::{Book, MOST};
 use book::days::Day;
-use book::entries::{Entry, Kind};
+use book::entries::{Entry, Kind, SERIES};
 use book::lawful::LawfulDay;
 use house::houses::House;
 use house::phases::Bell;
@@ -24,8 +24,6 @@ const DAY: Day = Day {
     cut: 126_000,
 };
 
-const SERIES: u32 = 32;
-
 // The bonds that lead, which settle in the morning by a trade.
 const LISTING: Listing = Listing {
     family: 1,
@@ -42,7 +40,7 @@ const LISTING: Listing = Listing {
 // The entry of a number: the series take turns, and the stamps go through the day session.
 fn entry(n: u32) -> Entry {
     Entry {
-        series: i64::from(n % SERIES),
+        series: i64::from(n % u32::from(SERIES)),
         stamp: 117_900 + i64::from(n % 25_201),
         kind: Kind::Trade {
             price: i64::from(n) * 10,
@@ -66,7 +64,7 @@ fn settled<B: Book>(book: &mut B, entries: u32, questions: u32) -> anyhow::Resul
         (0..questions)
             .filter(|n| {
                 house
-                    .settle(book, i64::from(*n % SERIES), Edition::Morning)
+                    .settle(book, i64::from(*n % u32::from(SERIES)), Edition::Morning)
                     .is_ok()
             })
             .count(),
