@@ -8,7 +8,7 @@ use Rattle.rows.specs.Steps.{letter}
 use Rattle.rows.specs.declared.steps.Step.{Step}
 use Rattle.rows.specs.declared.steps.Step.TheVariants.{Auction, Trade, Quote, Average, Theory, TheoryUp, Spread, PreviousSpread, Copy, Previous, Ruling}
 use Rattle.answers.specs.Faults.{line_detail, line_number}
-use Rattle.answers.specs.Texts.{Alike, TextsApart, Typed, answer_fields, detail_fields}
+use Rattle.answers.specs.Texts.{SameAnswer, TextsApart, Typed, answer_fields, detail_fields}
 use Rattle.runs.specs.declared.calls.Reply.{Reply}
 use Rattle.runs.specs.declared.calls.Reply.TheVariants.{Done, Listed, Settled}
 use Rattle.answers.specs.declared.faults.LineFault.{LineFault}
@@ -58,20 +58,20 @@ detail_apart (Some m) (Some n) h k e =
 price_apart : (y z : ℤ) (s t : Settlement) → y ≡ z → s.price ≡ t.price → s.step ≡ t.step → s.place ≡ t.place → Settled y s ≡ Settled z t
 price_apart y z s t e p q r = λ i. Settled (e i) (record { price = p i; step = q i; place = r i })
 
-alike : (r s : Result Reply LineFault) → Typed r → Typed s → answer_fields r ≡ answer_fields s → Alike r s
-alike (Ok Done) (Ok Done) t u e = refl
-alike (Ok Done) (Ok (Listed n)) t u e = absurd (omega (arith, ap word_length e))
-alike (Ok Done) (Ok (Settled z a)) t u e = absurd (omega (arith, ap word_length e))
-alike (Ok Done) (Err g) t u e = omega (arith, ap word_length e)
-alike (Ok (Listed m)) (Ok Done) t u e = absurd (omega (arith, ap word_length e))
-alike (Ok (Listed m)) (Ok (Listed n)) t u e =
+same_answer : (r s : Result Reply LineFault) → Typed r → Typed s → answer_fields r ≡ answer_fields s → SameAnswer r s
+same_answer (Ok Done) (Ok Done) t u e = refl
+same_answer (Ok Done) (Ok (Listed n)) t u e = absurd (omega (arith, ap word_length e))
+same_answer (Ok Done) (Ok (Settled z a)) t u e = absurd (omega (arith, ap word_length e))
+same_answer (Ok Done) (Err g) t u e = omega (arith, ap word_length e)
+same_answer (Ok (Listed m)) (Ok Done) t u e = absurd (omega (arith, ap word_length e))
+same_answer (Ok (Listed m)) (Ok (Listed n)) t u e =
     let d : decimal m ≡ decimal n = cc in
     ap (λ i. Listed i) (number_apart m n t u d)
-alike (Ok (Listed m)) (Ok (Settled z a)) t u e = absurd (omega (arith, ap word_length e))
-alike (Ok (Listed m)) (Err g) t u e = omega (arith, ap word_length e)
-alike (Ok (Settled y a)) (Ok Done) t u e = absurd (omega (arith, ap word_length e))
-alike (Ok (Settled y a)) (Ok (Listed n)) t u e = absurd (omega (arith, ap word_length e))
-alike (Ok (Settled y a)) (Ok (Settled z b)) t u e =
+same_answer (Ok (Listed m)) (Ok (Settled z a)) t u e = absurd (omega (arith, ap word_length e))
+same_answer (Ok (Listed m)) (Err g) t u e = omega (arith, ap word_length e)
+same_answer (Ok (Settled y a)) (Ok Done) t u e = absurd (omega (arith, ap word_length e))
+same_answer (Ok (Settled y a)) (Ok (Listed n)) t u e = absurd (omega (arith, ap word_length e))
+same_answer (Ok (Settled y a)) (Ok (Settled z b)) t u e =
     let series : signed_decimal y ≡ signed_decimal z = cc in
     let price : signed_decimal a.price ≡ signed_decimal b.price = cc in
     let step : letter a.step ≡ letter b.step = cc in
@@ -79,11 +79,11 @@ alike (Ok (Settled y a)) (Ok (Settled z b)) t u e =
     price_apart y z a b (signed_decimal_injective y z t.0.sfits u.0.sfits series)
     (signed_decimal_injective a.price b.price t.1.sfits u.1.sfits price) (letters_apart a.step b.step step)
     (number_apart a.place b.place t.2 u.2 place)
-alike (Ok (Settled y a)) (Err g) t u e = omega (arith, ap word_length e)
-alike (Err f) (Ok Done) t u e = omega (arith, ap word_length e)
-alike (Err f) (Ok (Listed n)) t u e = omega (arith, ap word_length e)
-alike (Err f) (Ok (Settled z a)) t u e = omega (arith, ap word_length e)
-alike (Err f) (Err g) t u e =
+same_answer (Ok (Settled y a)) (Err g) t u e = omega (arith, ap word_length e)
+same_answer (Err f) (Ok Done) t u e = omega (arith, ap word_length e)
+same_answer (Err f) (Ok (Listed n)) t u e = omega (arith, ap word_length e)
+same_answer (Err f) (Ok (Settled z a)) t u e = omega (arith, ap word_length e)
+same_answer (Err f) (Err g) t u e =
     let n : decimal (line_number f) ≡ decimal (line_number g) = cc in
     let d : detail_fields (line_detail f) ≡ detail_fields (line_detail g) = cc in (
       number_apart (line_number f) (line_number g) (omega (arith, number_small f)) (omega (arith, number_small g)) n,
@@ -92,6 +92,6 @@ alike (Err f) (Err g) t u e =
 
 -- equal texts are cut into equal fields
 pub texts_apart : TextsApart
-texts_apart r s t u e = alike r s t u (sym (fields_text r t) ∙ ap fields e ∙ fields_text s u)
+texts_apart r s t u e = same_answer r s t u (sym (fields_text r t) ∙ ap fields e ∙ fields_text s u)
 
 pub ruleset laws = (text_short, one_line, texts_apart)

@@ -1,17 +1,18 @@
 -- The fields of an answer: at most 20 bytes each, all above a space. So a text is one line, has at most 96 bytes, and is cut at
 -- its spaces into the fields again.
-use Rattle.std.proofs.Common.{◌≡◌, ℕ, suc, ◌*◌, ◌^◌, ◌<◌, ◌≤◌, ◌≢◌, true, List, [], ◌∷◌, ◌++◌, length, ℤ, pos, negsuc, Some, None, Ok, Err, decimal, Option, Result, All, IfSome, nat_lt, codes, w64, SFits, refl, ap, arith, length-append, ne_eqb}
+use Rattle.std.proofs.Common.{◌≡◌, ℕ, suc, ◌*◌, ◌^◌, ◌<◌, ◌≤◌, ◌≢◌, true, List, [], ◌∷◌, ◌++◌, length, ℤ, pos, negsuc, Some, None, Ok, Err, decimal, Option, Result, All, IfSome, nat_lt, codes, w64, SFits, refl, arith, length-append}
 use Rattle.std.proofs.lemmas.Fmt.{digits_decimal, length-decimal-le, length_signed_le}
 use Rattle.std.proofs.lemmas.Int.{ints}
 use Rattle.std.proofs.lemmas.List.Elements.{All-append, All-cons, All-from_get_or, All-from_recursion, All-nil, All-weaker, recursion_from_All}
-use Rattle.std.proofs.lemmas.Str.Parse.{IsNumeralModel, digit_at, numerals_by_value, tells_digits}
+use Rattle.std.proofs.lemmas.Str.Parse.{digit_at}
 use Rattle.std.specs.Fmt.{signed_decimal}
 use Rattle.std.specs.List.{AllByRecursion, list_all}
-use Rattle.std.specs.Str.Parse.{AllDigits, digits_value}
 use Rattle.book.specs.declared.faults.BookFault.TheVariants as books
 use Rattle.book.specs.declared.faults.DayFault.TheVariants as days
 use Rattle.house.specs.declared.faults.HouseFault.TheVariants as houses
-use Rattle.lines.specs.Fields.{fields, onto, spaced, trailed}
+use Rattle.lines.specs.Fields.{fields, spaced, trailed}
+use Rattle.lines.proofs.Cuts.{AllSpaceless, Spaceless, fields_spaced}
+use Rattle.lines.proofs.Numbers.{own}
 use Rattle.rows.specs.Steps.{letter}
 use Rattle.rows.specs.declared.steps.Step.{Step}
 use Rattle.rows.specs.declared.steps.Step.TheVariants.{Auction, Trade, Quote, Average, Theory, TheoryUp, Spread, PreviousSpread, Copy, Previous, Ruling}
@@ -40,9 +41,6 @@ clean_word (b ∷ bs) t = (grind arith, clean_word bs (grind arith))
 
 word_neat : (f : List ℕ) → list_all (λ b. nat_lt 32 b) f ≡ true → length f ≤ 20 → Neat f
 word_neat f t l = record { clean = clean_word f t; short = l }
-
-own : IsNumeralModel (AllDigits 10) (digits_value 10)
-own = numerals_by_value (AllDigits 10) tells_digits
 
 clean_number : (n : ℕ) → n < 2 ^ 64 → AllByRecursion Above (decimal n)
 clean_number n h =
@@ -170,14 +168,18 @@ text_short r t = spaced_short (answer_fields r) (fields_neat r t) (word_short r)
 
 -- ---- the fields again
 
-cut : (f : List ℕ) (fs : List (List ℕ)) → AllByRecursion Above f → AllNeat fs → fields (f ++ trailed fs) ≡ f ∷ fs
-cut [] [] h hs = refl
-cut [] (g ∷ gs) h hs = ap (λ xs. [] ∷ xs) (cut g gs hs.0.clean hs.1)
-cut (b ∷ f) fs h hs = rw (ne_eqb b 32 (λ e. omega (arith, h.0))) (ap (onto b) (cut f fs h.1 hs))
+-- a byte above a space is none
+spaceless : (f : List ℕ) → AllByRecursion Above f → Spaceless f
+spaceless [] h = tt
+spaceless (b ∷ f) h = ((λ e. omega (arith, h.0)), spaceless f h.1)
+
+all_spaceless : (fs : List (List ℕ)) → AllNeat fs → AllSpaceless fs
+all_spaceless [] h = tt
+all_spaceless (f ∷ fs) h = (spaceless f h.0.clean, all_spaceless fs h.1)
 
 cut_spaced : (fs : List (List ℕ)) → AllNeat fs → 0 < length fs → fields (spaced fs) ≡ fs
 cut_spaced [] h l = absurd (omega arith)
-cut_spaced (f ∷ fs) h l = cut f fs h.0.clean h.1
+cut_spaced (f ∷ fs) h l = fields_spaced f fs (spaceless f h.0.clean) (all_spaceless fs h.1)
 
 pub fields_text : (r : Result Reply LineFault) → Typed r → fields (answer_text r) ≡ answer_fields r
 fields_text r t = cut_spaced (answer_fields r) (fields_neat r t) (field_count r).0

@@ -47,13 +47,13 @@ abbrev pub AllOneLine : Type 0
 AllOneLine = (r : Result Reply LineFault) → Typed r → OneLine (answer_text r)
 
 -- equal answers, or refusals with the same number and the same origin or place
-abbrev pub Alike : Result Reply LineFault → Result Reply LineFault → Type 0
-Alike (Ok a) (Ok b) = a ≡ b
-Alike (Ok a) (Err g) = ⊥
-Alike (Err f) (Ok b) = ⊥
-Alike (Err f) (Err g) = (line_number f ≡ line_number g) × (line_detail f ≡ line_detail g)
+abbrev pub SameAnswer : Result Reply LineFault → Result Reply LineFault → Type 0
+SameAnswer (Ok a) (Ok b) = a ≡ b
+SameAnswer (Ok a) (Err g) = ⊥
+SameAnswer (Err f) (Ok b) = ⊥
+SameAnswer (Err f) (Err g) = (line_number f ≡ line_number g) × (line_detail f ≡ line_detail g)
 
 -- a text tells its answer: no two share one
 abbrev pub TextsApart : Type 0
 TextsApart =
-    (r s : Result Reply LineFault) → Typed r → Typed s → answer_text r ≡ answer_text s → Alike r s
+    (r s : Result Reply LineFault) → Typed r → Typed s → answer_text r ≡ answer_text s → SameAnswer r s

@@ -1,7 +1,7 @@
 // Answers as bytes, written into a buffer that the caller lends.
 #![tactic(auto, using(crate::proofs::Adding::replied))]
 
-ghost use Rattle.std.specs.Prelude.{◌≡◌, ◌+◌, ◌≤◌, [], ◌∷◌, length, IfOk, OnOk};
+ghost use Rattle.std.specs.Prelude.{◌≡◌, ◌+◌, ◌≤◌, ◌∷◌, length, IfOk, OnOk};
 ghost use Rattle.answers.specs.Texts.{answer_text, AllOneLine, Longest, OneLine, TextsApart};
 ghost use Rattle.answers.specs.Written.{Added, Begins, Replied};
 

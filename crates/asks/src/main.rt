@@ -6,7 +6,7 @@ use anyhow::{Context, anyhow};
 use board::boards::Board;
 use book::books::{Book, MOST};
 use book::days::Day;
-use book::entries::{Entry, Kind};
+use book::entries::{Entry, Kind, SERIES};
 use book::lawful::LawfulDay;
 use house::houses::House;
 use house::phases::Bell;
@@ -14,7 +14,7 @@ use house::terms::Listing;
 use ladders::sets::EvenSet;
 use rows::places::{Edition, Marks};
 use std::env;
-use tape::tapes::Tape;
+use tape::tapes::{BLANK, Tape};
 
 const DAY: Day = Day {
     night: 61_200,
@@ -23,8 +23,6 @@ const DAY: Day = Day {
     close: 143_100,
     cut: 126_000,
 };
-
-const SERIES: u32 = 32;
 
 // The bonds that lead, which settle in the morning by a trade.
 const LISTING: Listing = Listing {
@@ -39,17 +37,10 @@ const LISTING: Listing = Listing {
     },
 };
 
-// What stands in a place of the tape before it is used.
-const BLANK: Entry = Entry {
-    series: 0,
-    stamp: 0,
-    kind: Kind::Leg { price: 0, lots: 0 },
-};
-
 // The entry of a number: the series take turns, and the stamps go through the day session.
 fn entry(n: u32) -> Entry {
     Entry {
-        series: i64::from(n % SERIES),
+        series: i64::from(n % u32::from(SERIES)),
         stamp: 117_900 + i64::from(n % 25_201),
         kind: Kind::Trade {
             price: i64::from(n) * 10,
@@ -73,7 +64,7 @@ fn settled<B: Book>(book: &mut B, entries: u32, questions: u32) -> anyhow::Resul
         (0..questions)
             .filter(|n| {
                 house
-                    .settle(book, i64::from(*n % SERIES), Edition::Morning)
+                    .settle(book, i64::from(*n % u32::from(SERIES)), Edition::Morning)
                     .is_ok()
             })
             .count(),

@@ -7,11 +7,10 @@ mod reading;
 mod showing;
 
 use crate::reading::{Opening, call_of, opening_of};
-use crate::showing::{Answer, Replied, Told};
+use crate::showing::{Replied, Told};
 use anyhow::anyhow;
 use board::boards::Board;
 use book::books::Book;
-use book::entries::{Entry, Kind};
 use book::lawful::LawfulDay;
 use house::houses::House;
 use ladders::bands::Band;
@@ -19,23 +18,15 @@ use ladders::faults::LadderFault;
 use ladders::sets::{EvenSet, LadderSet, SteppedSet};
 use rows::places::Edition;
 use runs::calls::{Call, Reply};
-use runs::comparing::compare_makes;
+use runs::comparing::{Answers, compare_makes};
 use runs::performing::perform;
-use tape::tapes::Tape;
+use tape::tapes::{BLANK, Tape};
 
-// A small day: more entries than these find the books full. It stands in `figures` too, as BLANK does: the two programs
-// share no crate.
+// A small day: more entries than these find the books full. It stands in `figures` too: the two programs share no crate.
 const PLACES: usize = 256;
 
 // The line of the first call, after the day line.
 const FIRST_CALL: usize = 2;
-
-// What stands in a place of the tape before it is used.
-const BLANK: Entry = Entry {
-    series: 0,
-    stamp: 0,
-    kind: Kind::Leg { price: 0, lots: 0 },
-};
 
 // Stepped ladders of one band each, of these ticks, at most four, as a day line has. No plainer with vectors: the slices
 // borrow from the bands, and to allocate can fail, which is no LadderFault.
@@ -96,7 +87,7 @@ fn ask(
     calls: &[Call],
     series: i64,
     edition: Edition,
-) -> (Answer, Answer) {
+) -> Answers {
     let mut slots = [BLANK; PLACES];
     compare_makes(
         day, even, PLACES, calls, stepped, &mut slots, calls, series, edition,

@@ -4,8 +4,6 @@ use house::faults::HouseFault;
 use runs::calls::Reply;
 use std::fmt;
 
-pub(crate) type Answer = Result<Settlement, HouseFault>;
-
 // A refusal: its number, and the origin where it has one. What is printed of a fault is this program's own, so a newtype
 // here and no Display for HouseFault.
 #[derive(Clone, Copy)]
@@ -38,7 +36,7 @@ impl fmt::Display for Replied {
 
 // What the question for a price was answered: the price, the letter of its step, and the step's place.
 #[derive(Clone, Copy)]
-pub(crate) struct Told(pub(crate) Answer);
+pub(crate) struct Told(pub(crate) Result<Settlement, HouseFault>);
 
 impl fmt::Display for Told {
     fn fmt<W: fmt::Write>(&self, f: &mut fmt::Formatter<W>) -> fmt::Result {

@@ -12,7 +12,7 @@ use std::alloc::Global;
 use std::str;
 use tape::tapes::Tape;
 
-// An answer takes up to so many bytes.
+// An answer takes up to so many bytes. From the rules and not from `answers`, so that another number there is noticed.
 const ROOM: usize = 96;
 
 // The answer of a desk, as text.

@@ -12,19 +12,12 @@ mod tallies;
 use crate::benches::Bench;
 use crate::plans::Plan;
 use crate::tallies::Tally;
-use book::entries::{Entry, Kind};
+use tape::tapes::BLANK;
 
 const DAYS: u64 = 2_000;
 
 // The most places that a day's book has here.
 const PLACES: usize = 256;
-
-// What stands in a place of the tape before it is used.
-const BLANK: Entry = Entry {
-    series: 0,
-    stamp: 0,
-    kind: Kind::Leg { price: 0, lots: 0 },
-};
 
 // How many places the book of a day has: mostly enough.
 fn capacity_of(seed: u64) -> usize {

@@ -1,7 +1,8 @@
 // A random day: its lines, one after the other.
 use crate::chance::Chance;
 use crate::damage::damaged;
-use crate::stamps::{Record, lawful, moved, stamp};
+use crate::stamps::{lawful, moved, stamp};
+use book::days::Day;
 use std::alloc::{AllocError, Global};
 use std::fmt;
 
@@ -61,7 +62,7 @@ pub(crate) struct Plan {
     chance: Chance,
     lines: Vec<Vec<u8>>,
     style: Style,
-    record: Record,
+    record: Day,
     ticks: [i64; 4],
     level: i64,
     // What every spread of the day is, if that is one.
@@ -201,8 +202,8 @@ impl Plan {
         self.write(line)
     }
 
-    fn write_day(&mut self, record: Record, ticks: [i64; 4]) -> Result<(), AllocError> {
-        let Record {
+    fn write_day(&mut self, record: Day, ticks: [i64; 4]) -> Result<(), AllocError> {
+        let Day {
             night,
             opening,
             afternoon,

@@ -1,14 +1,6 @@
 // Day records, lawful and not, and the stamps near the edges of their windows.
 use crate::chance::Chance;
-
-#[derive(Clone, Copy)]
-pub(crate) struct Record {
-    pub(crate) night: i64,
-    pub(crate) opening: i64,
-    pub(crate) afternoon: i64,
-    pub(crate) close: i64,
-    pub(crate) cut: i64,
-}
+use book::days::Day;
 
 const LAST_NIGHT: i64 = 86_399;
 
@@ -17,7 +9,7 @@ const FIRST_DAY: i64 = 86_400;
 const LAST_DAY: i64 = 172_799;
 
 // A usual day: no window is empty in it.
-const USUAL: Record = Record {
+const USUAL: Day = Day {
     night: 61_200,
     opening: 117_900,
     afternoon: 131_400,
@@ -49,7 +41,7 @@ fn some_second(chance: &mut Chance, first: i64, last: i64) -> i64 {
     within(second, first, last)
 }
 
-pub(crate) fn lawful(chance: &mut Chance) -> Record {
+pub(crate) fn lawful(chance: &mut Chance) -> Day {
     if chance.percent(50) {
         return USUAL;
     }
@@ -59,7 +51,7 @@ pub(crate) fn lawful(chance: &mut Chance) -> Record {
     let earliest = afternoon.max(opening.saturating_add(1)).saturating_add(1);
     let close = some_second(chance, earliest, LAST_DAY);
     let cut = some_second(chance, opening.saturating_add(1), close.saturating_sub(1));
-    Record {
+    Day {
         night,
         opening,
         afternoon,
@@ -69,7 +61,7 @@ pub(crate) fn lawful(chance: &mut Chance) -> Record {
 }
 
 // A record with one stamp moved to or over an edge of what is lawful; it may stay lawful.
-pub(crate) fn moved(chance: &mut Chance, record: Record) -> Record {
+pub(crate) fn moved(chance: &mut Chance, record: Day) -> Day {
     let mut moved = record;
     match chance.below(5) {
         0 => moved.night = chance.of(&[-1, 0, LAST_NIGHT, FIRST_DAY]),
@@ -82,7 +74,7 @@ pub(crate) fn moved(chance: &mut Chance, record: Record) -> Record {
 }
 
 // A stamp near where a window of the day begins or ends.
-fn near_an_edge(chance: &mut Chance, record: Record) -> i64 {
+fn near_an_edge(chance: &mut Chance, record: Day) -> i64 {
     let edge = match chance.below(3) {
         0 => chance.of(&SECONDS),
         _ => chance.of(&[
@@ -97,7 +89,7 @@ fn near_an_edge(chance: &mut Chance, record: Record) -> i64 {
 }
 
 // Mostly within the day.
-pub(crate) fn stamp(chance: &mut Chance, record: Record) -> i64 {
+pub(crate) fn stamp(chance: &mut Chance, record: Day) -> i64 {
     let drawn = if chance.percent(60) {
         near_an_edge(chance, record)
     } else {

@@ -45,7 +45,7 @@ fn counts(alloc: Global, names: &[&'static str]) -> Result<Vec<Count>, AllocErro
 fn add_one_of(counts: &mut Vec<Count>, name: &str) {
     for count in counts.iter_mut() {
         if count.name == name {
-            count.times = count.times.saturating_add(1);
+            add_one(&mut count.times);
         }
     }
 }

@@ -11,25 +11,17 @@ use anyhow::anyhow;
 use board::boards::Board;
 use book::books::Book;
 use book::days::Day;
-use book::entries::{Entry, Kind, SERIES};
+use book::entries::{Entry, SERIES};
 use book::feeds::take_both;
 use book::lawful::LawfulDay;
 use book::marks::Values;
-use tape::tapes::Tape;
+use tape::tapes::{BLANK, Tape};
 
-// A small day: more entries than these find the books full. It stands in `both` too, as BLANK does: the two programs share
-// no crate.
+// A small day: more entries than these find the books full. It stands in `both` too: the two programs share no crate.
 const PLACES: usize = 256;
 
 // The windows are numbered from 1. `board` has the number too, for itself; `book` needs none.
 const WINDOWS: u8 = 13;
-
-// What stands in a place of the tape before it is used.
-const BLANK: Entry = Entry {
-    series: 0,
-    stamp: 0,
-    kind: Kind::Leg { price: 0, lots: 0 },
-};
 
 // The day of the input, if it has one, and the entries in their order.
 fn read(rt: &HostRuntime) -> anyhow::Result<(Option<Day>, Vec<Entry>)> {

@@ -1,7 +1,7 @@
-mod Cuts
+pub mod Cuts
 mod Missing
 mod OnePlace
-mod Numbers
+pub mod Numbers
 mod Made
 mod Apart
 pub mod Neat

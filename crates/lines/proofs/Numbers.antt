@@ -6,7 +6,7 @@ use Rattle.std.proofs.lemmas.List.{length-take-le, take_all}
 use Rattle.std.proofs.lemmas.Str.Parse.{IsNumeralModel, digit_at, numerals_by_value, tells_digits, digits_value_short}
 use Rattle.std.specs.Str.Parse.{AllDigits, digits_value}
 use Rattle.std.specs.Int.{IsInRange}
-use Rattle.std.specs.Char.{digit_value as digitValue}
+use Rattle.std.specs.Char.{digit_value}
 use Rattle.std.specs.Fmt.{signed_decimal}
 use Rattle.lines.specs.Values.{Classed, Numbered, Valued}
 use Rattle.lines.specs.declared.classes.ByteClass.{ByteClass}
@@ -55,12 +55,12 @@ so_far ds i n most l h e =
     let t : length (take i ds) ≤ 9 = omega (arith, length-take-le i ds (omega arith)) in
     omega (arith, digits_value_short own (take i ds) 9 h t)
 
-digit_value : (b d : ℕ) → b ≡ 48 + d → d < 10 → digitValue b ≡ d
-digit_value b d e h = grind arith
+value_of_digit : (b d : ℕ) → b ≡ 48 + d → d < 10 → digit_value b ≡ d
+value_of_digit b d e h = grind arith
 
 pub digit_step : (ds : List ℕ) (i n d : ℕ) → i < length ds → AllDigits 10 (take i ds) → n ≡ digits_value 10 (take i ds) → get_or ds i 0 ≡ 48 + d → d < 10 → AllDigits 10 (take (i + 1) ds) × (n * 10 + d ≡ digits_value 10 (take (i + 1) ds))
 digit_step ds i n d l h v e s =
-    let w : digitValue (get_or ds i 0) ≡ d = digit_value (get_or ds i 0) d e s in
+    let w : digit_value (get_or ds i 0) ≡ d = value_of_digit (get_or ds i 0) d e s in
     (digits_more 10 ds i l h (omega arith), omega (arith, digits_value_more 10 ds i l))
 
 pub not_digits : (ds : List ℕ) (i : ℕ) (r : ByteClass) → i < length ds → Classed (get_or ds i 0) r → ((d : ℕ) → r ≡ Digit d → ⊥) → AllDigits 10 ds → ⊥

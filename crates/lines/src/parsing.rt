@@ -26,9 +26,11 @@ type Four = (i64, (i64, (i64, (i64, ()))));
 
 type DayFields = (i64, (i64, (i64, (i64, (i64, Four)))));
 
-type Previous = (
-    Option<i64>,
-    (Option<i64>, (Option<i64>, (bool, (bool, ())))),
+type TwoMarks = (bool, (bool, ()));
+
+type ListFields = (
+    i64,
+    (i64, (Option<i64>, (Option<i64>, (Option<i64>, TwoMarks)))),
 );
 
 fn read_day(reader: &mut Reader<'_>) -> Result<LineCall, NotRead>
@@ -51,8 +53,10 @@ fn read_day(reader: &mut Reader<'_>) -> Result<LineCall, NotRead>
 fn read_list(reader: &mut Reader<'_>) -> Result<LineCall, NotRead>
     ensures { ReadFrom values (Named commands.List) reader.old result }
 {
-    let (family, (ladder, previous)) = <(i64, (i64, Previous))>::from_fields(reader)?;
-    let (reference, (settlement, (spread, (last_day, (quarter_end, ()))))) = previous;
+    let (family, (ladder, (reference, (settlement, (spread, marks))))) = ListFields::from_fields(
+        reader,
+    )?;
+    let (last_day, (quarter_end, ())) = marks;
     Ok(LineCall::Call(Call::List(Listing {
         family,
         ladder,

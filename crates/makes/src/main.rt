@@ -4,22 +4,14 @@
 use anyhow::anyhow;
 use board::boards::Board;
 use book::books::Reusable;
-use book::entries::{Entry, Kind};
 use book::lawful::LawfulDay;
 use std::io;
 use std::io::{Read, Write};
 use stream::serving::serve;
-use tape::tapes::Tape;
+use tape::tapes::{BLANK, Tape};
 
 // So few that an input can fill them.
 const PLACES: usize = 8;
-
-// What stands in a place of the tape before it is used.
-const BLANK: Entry = Entry {
-    series: 0,
-    stamp: 0,
-    kind: Kind::Leg { price: 0, lots: 0 },
-};
 
 // What is written of an input by way of a book.
 fn written<B: Reusable>(rt: &HostRuntime, book: &mut B, input: &[u8]) -> anyhow::Result<Vec<u8>> {
@@ -33,8 +25,8 @@ fn run(rt: &HostRuntime) -> anyhow::Result<()> {
     let mut input = Vec::new(rt.alloc());
     rt.reader().read_to_end(&mut input)?;
     let mut board = Board::new(LawfulDay::least(), PLACES);
-    let mut places = [BLANK; PLACES];
-    let mut tape = Tape::new(LawfulDay::least(), &mut places);
+    let mut slots = [BLANK; PLACES];
+    let mut tape = Tape::new(LawfulDay::least(), &mut slots);
     let one = written(rt, &mut board, &input)?;
     let other = written(rt, &mut tape, &input)?;
     if one != other {

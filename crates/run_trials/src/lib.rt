@@ -18,9 +18,9 @@ mod tests {
     use rows::places::{Edition, Marks};
     use rows::steps::Step;
     use runs::calls::Call;
-    use runs::comparing::{Run, compare, compare_makes};
+    use runs::comparing::{Answers, Run, compare, compare_makes};
     use std::test::Fail;
-    use tape::tapes::Tape;
+    use tape::tapes::{BLANK, Tape};
 
     const DAY: Day = Day {
         night: 61_200,
@@ -72,29 +72,14 @@ mod tests {
     }
 
     // Both runs on ticks of 10, and the question for the close of a series after each.
-    fn both(
-        calls: &[Call],
-        others: &[Call],
-        series: i64,
-    ) -> Result<
-        (
-            Result<Settlement, HouseFault>,
-            Result<Settlement, HouseFault>,
-        ),
-        Fail,
-    > {
+    fn both(calls: &[Call], other_calls: &[Call], series: i64) -> Result<Answers, Fail> {
         let bands = [Band {
             start: None,
             tick: 10,
         }];
         let even = EvenSet::new(&[10i64])?;
         let stepped = SteppedSet::new(&[&bands[0..1]])?;
-        let leg = Kind::Leg { price: 0, lots: 0 };
-        let mut places = [Entry {
-            series: 0,
-            stamp: 0,
-            kind: leg,
-        }; 8];
+        let mut slots = [BLANK; 8];
         let day = LawfulDay::new(DAY)?;
         Ok(compare_makes(
             day,
@@ -102,8 +87,8 @@ mod tests {
             30_000,
             calls,
             stepped,
-            &mut places,
-            others,
+            &mut slots,
+            other_calls,
             series,
             Edition::Close,
         ))
@@ -118,7 +103,7 @@ mod tests {
         };
         let leg = enter(0, Kind::Leg { price: 90, lots: 9 });
         let calls = [list(1, None), list(9, None), OPEN, trade(0, 50), CLOSE];
-        let others = [
+        let other_calls = [
             list(1, None),
             list(12, None),
             OPEN,
@@ -129,7 +114,7 @@ mod tests {
             leg,
             CLOSE,
         ];
-        let (first, second) = both(&calls, &others, 0)?;
+        let (first, second) = both(&calls, &other_calls, 0)?;
         assert_eq!(rt; first, settled(50, Step::Trade, 2));
         assert_eq!(rt; second, first);
         Ok(())
@@ -139,8 +124,8 @@ mod tests {
     #[test]
     fn raised_prices_lower_no_answer(rt: HostRuntime) -> Result<(), Fail> {
         let calls = [list(9, None), list(8, Some(0)), theory(104), OPEN, CLOSE];
-        let others = [list(9, None), list(8, Some(0)), OPEN, theory(105), CLOSE];
-        let (first, second) = both(&calls, &others, 1)?;
+        let other_calls = [list(9, None), list(8, Some(0)), OPEN, theory(105), CLOSE];
+        let (first, second) = both(&calls, &other_calls, 1)?;
         assert_eq!(rt; first, settled(100, Step::Copy, 1));
         assert_eq!(rt; second, settled(110, Step::Copy, 1));
         Ok(())
@@ -159,8 +144,8 @@ mod tests {
             )
         };
         let calls = [list(10, None), OPEN, quote(120), trade(0, 90), CLOSE];
-        let others = [list(10, None), OPEN, quote(130), trade(0, 110), CLOSE];
-        let (first, second) = both(&calls, &others, 0)?;
+        let other_calls = [list(10, None), OPEN, quote(130), trade(0, 110), CLOSE];
+        let (first, second) = both(&calls, &other_calls, 0)?;
         assert_eq!(rt; first, settled(110, Step::Quote, 2));
         assert_eq!(rt; second, settled(120, Step::Quote, 2));
         Ok(())
@@ -171,7 +156,7 @@ mod tests {
     fn more_entries_settle_no_later(rt: HostRuntime) -> Result<(), Fail> {
         let auction = enter(0, Kind::Auction { price: 80, lots: 2 });
         let calls = [list(3, None), OPEN, trade(0, 50), CLOSE];
-        let others = [
+        let other_calls = [
             list(3, None),
             OPEN,
             trade(0, 40),
@@ -179,7 +164,7 @@ mod tests {
             auction,
             CLOSE,
         ];
-        let (first, second) = both(&calls, &others, 0)?;
+        let (first, second) = both(&calls, &other_calls, 0)?;
         assert_eq!(rt; first, settled(50, Step::Trade, 3));
         assert_eq!(rt; second, settled(80, Step::Auction, 1));
         Ok(())
@@ -190,8 +175,8 @@ mod tests {
     fn more_evidence_settles_no_later(rt: HostRuntime) -> Result<(), Fail> {
         let auction = enter(0, Kind::Auction { price: 80, lots: 2 });
         let calls = [list(1, None), theory(100), OPEN, CLOSE];
-        let others = [list(1, None), theory(100), OPEN, auction, CLOSE];
-        let (first, second) = both(&calls, &others, 0)?;
+        let other_calls = [list(1, None), theory(100), OPEN, auction, CLOSE];
+        let (first, second) = both(&calls, &other_calls, 0)?;
         assert_eq!(rt; first, settled(100, Step::Theory, 3));
         assert_eq!(rt; second, settled(80, Step::Auction, 1));
         Ok(())
@@ -201,18 +186,13 @@ mod tests {
     #[test]
     fn houses_and_books_hold_the_end_of_their_runs(rt: HostRuntime) -> Result<(), Fail> {
         let day = LawfulDay::new(DAY)?;
-        let leg = Kind::Leg { price: 0, lots: 0 };
-        let mut places = [Entry {
-            series: 0,
-            stamp: 0,
-            kind: leg,
-        }; 8];
+        let mut slots = [BLANK; 8];
         let mut house = House::new(EvenSet::new(&[10i64])?);
         let mut board = Board::new(day, 8);
         let mut other = House::new(EvenSet::new(&[10i64])?);
-        let mut tape = Tape::new(day, &mut places);
+        let mut tape = Tape::new(day, &mut slots);
         let calls = [list(1, None), OPEN, trade(0, 50), CLOSE];
-        let others = [list(1, None), OPEN, trade(0, 50), trade(0, 60)];
+        let other_calls = [list(1, None), OPEN, trade(0, 50), trade(0, 60)];
         let first = Run {
             house: &mut house,
             book: &mut board,
@@ -221,7 +201,7 @@ mod tests {
         let second = Run {
             house: &mut other,
             book: &mut tape,
-            calls: &others,
+            calls: &other_calls,
         };
         let (one, two) = compare(first, second, 0, Edition::Close);
         assert_eq!(rt; one, settled(50, Step::Trade, 2));

@@ -49,8 +49,8 @@ abbrev spot : Day → List Call → ℕ → Station
 spot d xs n = record { number = n; series = stands xs n; figures = λ w. values (figures_of d (entries xs) n w) }
 
 -- the answer by the calls taken
-abbrev told : (ℕ → ℤ → Bool) → Edition → Day → List Call → ℕ → Answer
-told P ed d xs n = settled P ed (spot d xs n) (map (spot d xs) (references (stands xs) n))
+abbrev told_answer : (ℕ → ℤ → Bool) → Edition → Day → List Call → ℕ → Answer
+told_answer P ed d xs n = settled P ed (spot d xs n) (map (spot d xs) (references (stands xs) n))
 
 module _ (d : Day) (k ladders : ℕ) (P : ℕ → ℤ → Bool) (calls : List Call) where
   abbrev xs : List Call
@@ -60,7 +60,7 @@ module _ (d : Day) (k ladders : ℕ) (P : ℕ → ℤ → Bool) (calls : List Ca
   w = after_run ladders P calls (new_world d k)
 
   -- what the house would answer is told by the calls taken
-  answer_told : (ed : Edition) (n : ℕ) → settled_at P ed w.state w.book n ≡ told P ed d xs n
+  answer_told : (ed : Edition) (n : ℕ) → settled_at P ed w.state w.book n ≡ told_answer P ed d xs n
   answer_told ed n = λ i.
       settled P ed (station_of n (told_series d k ladders P calls n i) (told_book d k ladders P calls i))
       (map (λ r. station_of r (told_series d k ladders P calls r i) (told_book d k ladders P calls i)) (references (λ r. told_series d k ladders P calls r i) n))
@@ -111,14 +111,14 @@ module _ (d : Day) (n : ℕ) (xs ys : List Call) (A : ℕ → Type 0) (R : Stati
 
 -- ---- the laws, of the calls taken in two runs of one day over the same lawful prices
 
-module _ (d : Day) (j k ladders others : ℕ) (P : ℕ → ℤ → Bool) (calls more : List Call) (ed : Edition) (n : ℕ) where
+module _ (d : Day) (j k ladders other_ladders : ℕ) (P : ℕ → ℤ → Bool) (calls other_calls : List Call) (ed : Edition) (n : ℕ) where
   abbrev first : List Call
   first = taken ladders P calls (new_world d j)
 
   abbrev second : List Call
-  second = taken others P more (new_world d k)
+  second = taken other_ladders P other_calls (new_world d k)
 
-  same_told : SameEvidence n first second → told P ed d first n ≡ told P ed d second n
+  same_told : SameEvidence n first second → told_answer P ed d first n ≡ told_answer P ed d second n
   same_told e =
       let ps = path_pairs d n first second (λ q. stands first q ≡ stands second q) ◌≡◌
       (λ q s on i. record { number = q; series = s i; figures = λ v. values (same_figures d (path_of first n) (entries first) (entries second) q v e.evidence on i) })
@@ -126,11 +126,11 @@ module _ (d : Day) (j k ladders others : ℕ) (P : ℕ → ℤ → Bool) (calls 
       let rest = same_from_all_zip ◌≡◌ (map (spot d first) (references (stands first) n)) (map (spot d second) (references (stands second) n)) ps.1 (λ x y same. sym same) in
       λ i. settled P ed (ps.0 i) (sym rest i)
 
-  raised_told : ((l : ℕ) (z : ℤ) → Near (P l) z) → RaisedEvidence n first second → NotLower (told P ed d first n) (told P ed d second n)
+  raised_told : ((l : ℕ) (z : ℤ) → Near (P l) z) → RaisedEvidence n first second → NotLower (told_answer P ed d first n) (told_answer P ed d second n)
   raised_told near e =
       raised_answers P near ed (spot d first n) (spot d second n) (map (spot d first) (references (stands first) n)) (map (spot d second) (references (stands second) n))
       (all_lawful d j ladders P calls (path_of first n))
-      (all_lawful d k others P more (path_of second n))
+      (all_lawful d k other_ladders P other_calls (path_of second n))
       (path_pairs d n first second _ StationRaised
       (λ q s on. record {
         number = refl;
@@ -139,16 +139,16 @@ module _ (d : Day) (j k ladders others : ℕ) (P : ℕ → ℤ → Bool) (calls 
       })
       e.terms e.numbers)
 
-  more_told : MoreEvidence n first second → NoLater (told P ed d first n) (told P ed d second n)
+  more_told : MoreEvidence n first second → NoLater (told_answer P ed d first n) (told_answer P ed d second n)
   more_told e =
       more_answers P ed (spot d first n) (spot d second n) (map (spot d first) (references (stands first) n)) (map (spot d second) (references (stands second) n))
       (all_lawful d j ladders P calls (path_of first n))
-      (all_lawful d k others P more (path_of second n))
+      (all_lawful d k other_ladders P other_calls (path_of second n))
       (path_pairs d n first second (λ q. stands first q ≡ stands second q) StationMore
       (λ q s on. record {
         number = refl;
         series = s;
-        figures = λ v. more_figures d (path_of first n) (entries first) (entries second) q v (told_allowed d k others P more) e.evidence on;
+        figures = λ v. more_figures d (path_of first n) (entries first) (entries second) q v (told_allowed d k other_ladders P other_calls) e.evidence on;
       })
       e.terms e.numbers)
 
@@ -161,23 +161,23 @@ asked_in_the_end d k r n ed new =
     (ap (λ c. is_listed c n) t.roll.count, ap (λ p. is_open p ed) t.phase)
 
 -- the answer to a question in time is told by the calls taken
-asked_answer : (d : Day) (k : ℕ) (r : Run) (n : ℤ) (ed : Edition) → Asked r n ed → r.start ≡ new_world d k → answer_in r n ed ≡ as_told (told r.lawful ed d (taken_in r) (nat_abs n))
+asked_answer : (d : Day) (j : ℕ) (r : Run) (n : ℤ) (ed : Edition) → Asked r n ed → r.start ≡ new_world d j → answer_in r n ed ≡ as_told (told_answer r.lawful ed d (taken_in r) (nat_abs n))
 asked_answer d j r n ed q new =
     let k = nat_abs n in
     let same = asked_in_the_end d j r n ed new in
     in_time r.lawful ed (end r).state (end r).book n (record { opened = same.1 ∙ q.opened; listed = same.0 ∙ q.listed })
-    ∙ ap as_told (subst (λ (s : World). settled_at r.lawful ed (after_run r.ladders r.lawful r.calls s).state (after_run r.ladders r.lawful r.calls s).book k ≡ told r.lawful ed d (taken r.ladders r.lawful r.calls s) k) (sym new) (answer_told d j r.ladders r.lawful r.calls ed k))
+    ∙ ap as_told (subst (λ (s : World). settled_at r.lawful ed (after_run r.ladders r.lawful r.calls s).state (after_run r.ladders r.lawful r.calls s).book k ≡ told_answer r.lawful ed d (taken r.ladders r.lawful r.calls s) k) (sym new) (answer_told d j r.ladders r.lawful r.calls ed k))
 
 -- what holds of the calls taken from new houses on empty books over the same prices holds of runs that can be compared
 carried : (Rel : Answer → Answer → Type 0) (E : ℕ → List Call → List Call → Type 0) (a b : Run) (n : ℤ) (ed : Edition)
-    → ((d : Day) (j k : ℕ) → E (nat_abs n) (taken a.ladders a.lawful a.calls (new_world d j)) (taken b.ladders a.lawful b.calls (new_world d k)) → Rel (told a.lawful ed d (taken a.ladders a.lawful a.calls (new_world d j)) (nat_abs n)) (told a.lawful ed d (taken b.ladders a.lawful b.calls (new_world d k)) (nat_abs n)))
-    → (c : Comparable a b n ed) → E (nat_abs n) (taken_in a) (taken_in b) → Rel (told a.lawful ed c.day (taken_in a) (nat_abs n)) (told b.lawful ed c.day (taken_in b) (nat_abs n))
+    → ((d : Day) (j k : ℕ) → E (nat_abs n) (taken a.ladders a.lawful a.calls (new_world d j)) (taken b.ladders a.lawful b.calls (new_world d k)) → Rel (told_answer a.lawful ed d (taken a.ladders a.lawful a.calls (new_world d j)) (nat_abs n)) (told_answer a.lawful ed d (taken b.ladders a.lawful b.calls (new_world d k)) (nat_abs n)))
+    → (c : Comparable a b n ed) → E (nat_abs n) (taken_in a) (taken_in b) → Rel (told_answer a.lawful ed c.day (taken_in a) (nat_abs n)) (told_answer b.lawful ed c.day (taken_in b) (nat_abs n))
 carried Rel E a b n ed law c =
     let d = c.day in
     let m = nat_abs n in
     let prices : a.lawful ≡ b.lawful = λ i l v. c.alike.prices l v i in
     let at_start : World → (ℕ → ℤ → Bool) → World → Type 0 = λ s Q t.
-    E m (taken a.ladders a.lawful a.calls s) (taken b.ladders Q b.calls t) → Rel (told a.lawful ed d (taken a.ladders a.lawful a.calls s) m) (told Q ed d (taken b.ladders Q b.calls t) m) in
+    E m (taken a.ladders a.lawful a.calls s) (taken b.ladders Q b.calls t) → Rel (told_answer a.lawful ed d (taken a.ladders a.lawful a.calls s) m) (told_answer Q ed d (taken b.ladders Q b.calls t) m) in
     subst (λ (Q : ℕ → ℤ → Bool). at_start a.start Q b.start) prices
     (subst (λ (t : World). at_start a.start a.lawful t) (sym c.other_new)
     (subst (λ (s : World). at_start s a.lawful (new_world d c.other_capacity)) (sym c.new) (law d c.capacity c.other_capacity)))
@@ -202,16 +202,16 @@ module _ (a b : Run) (n : ℤ) (ed : Edition) (c : Comparable a b n ed) where
 
   raised_not_lower : ((l : ℕ) (z : ℤ) → Near (a.lawful l) z) → RaisedEvidence (nat_abs n) (taken_in a) (taken_in b) → NotLower (answer_in a n ed) (answer_in b n ed)
   raised_not_lower near e =
-      let x = told a.lawful ed c.day (taken_in a) (nat_abs n) in
-      let y = told b.lawful ed c.day (taken_in b) (nat_abs n) in
+      let x = told_answer a.lawful ed c.day (taken_in a) (nat_abs n) in
+      let y = told_answer b.lawful ed c.day (taken_in b) (nat_abs n) in
       let law = carried NotLower RaisedEvidence a b n ed (λ d j k. raised_told d j k a.ladders b.ladders a.lawful a.calls b.calls ed (nat_abs n) near) c e in
       subst (λ (p : Result Settlement HouseFault). NotLower p (answer_in b n ed)) (sym (asked_answer c.day c.capacity a n ed c.alike.first c.new))
       (subst (λ (q : Result Settlement HouseFault). NotLower (as_told x) q) (sym (asked_answer c.day c.other_capacity b n ed c.alike.second c.other_new)) (not_lower_told x y law))
 
   more_no_later : MoreEvidence (nat_abs n) (taken_in a) (taken_in b) → NoLater (answer_in a n ed) (answer_in b n ed)
   more_no_later e =
-      let x = told a.lawful ed c.day (taken_in a) (nat_abs n) in
-      let y = told b.lawful ed c.day (taken_in b) (nat_abs n) in
+      let x = told_answer a.lawful ed c.day (taken_in a) (nat_abs n) in
+      let y = told_answer b.lawful ed c.day (taken_in b) (nat_abs n) in
       let law = carried NoLater MoreEvidence a b n ed (λ d j k. more_told d j k a.ladders b.ladders a.lawful a.calls b.calls ed (nat_abs n)) c e in
       subst (λ (p : Result Settlement HouseFault). NoLater p (answer_in b n ed)) (sym (asked_answer c.day c.capacity a n ed c.alike.first c.new))
       (subst (λ (q : Result Settlement HouseFault). NoLater (as_told x) q) (sym (asked_answer c.day c.other_capacity b n ed c.alike.second c.other_new)) (no_later_told x y law))
@@ -241,7 +241,7 @@ laws_of_new a b n ed x y d j k new other_new l = record {
 
 -- a run on a house and a book that were just made is a new run
 pub begun : {L : Type 0} {bound : _} (size : L → ℕ) (lawful : L → ℕ → ℤ → Bool) (h : House L bound) (m : Ledger) (set : L) (d : Day) (k : ℕ) (calls : List Call) → state h ≡ new_state → h.set ≡ set → m ≡ fresh d k → run_of size lawful h m calls ≡ new_run size lawful set d k calls
-begun size lawful h m set d k calls new same empty-book = λ i. record { ladders = size (same i); lawful = lawful (same i); start = record { state = new i; book = empty-book i }; calls = calls }
+begun size lawful h m set d k calls new same empty_book = λ i. record { ladders = size (same i); lawful = lawful (same i); start = record { state = new i; book = empty_book i }; calls = calls }
 
 pub laws_begun : (a b c e : Run) (n m : ℤ) (ed : Edition) (x y : Result Settlement HouseFault) (d : Day) (j k : ℕ) → a ≡ c → b ≡ e → n ≡ m → c.start ≡ new_world d j → e.start ≡ new_world d k → Laws (Comparable a b n ed) a b n ed x y → Laws (Alike c e m ed) c e m ed x y
 laws_begun a b c e n m ed x y d j k first second number new other_new l =

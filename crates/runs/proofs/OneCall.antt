@@ -107,8 +107,8 @@ placed_lawful k s all one others n =
 
 -- ---- listings
 
-get_d_other : {X : Type 0} (xs : List X) (x d : X) (n : ℕ) → (n ≡ length xs → ⊥) → get_or (xs ++ (x ∷ [])) n d ≡ get_or xs n d
-get_d_other xs x d n other =
+get_or_push_other : {X : Type 0} (xs : List X) (x d : X) (n : ℕ) → (n ≡ length xs → ⊥) → get_or (xs ++ (x ∷ [])) n d ≡ get_or xs n d
+get_or_push_other xs x d n other =
     ⊎_elim
     (λ l. get_or_append_left xs (x ∷ []) d n l)
     (λ l. let long = length_push xs x in get_or_past (xs ++ (x ∷ [])) n d (omega arith) ∙ sym (get_or_past xs n d l))
@@ -145,7 +145,7 @@ roll_listed xs l r lawful t = record {
         ∙ t.series n
         ∙ sym
         (stands_as xs (ListCall l) n (stands xs n).terms (last_theory n xs) (last_ruling n xs)
-        (ap (λ ts. get_or ts n blank.terms) more ∙ get_d_other (listed xs) terms blank.terms n (λ e. o (e ∙ sym t.count)))
+        (ap (λ ts. get_or ts n blank.terms) more ∙ get_or_push_other (listed xs) terms blank.terms n (λ e. o (e ∙ sym t.count)))
         refl
         refl)
 

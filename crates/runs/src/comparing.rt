@@ -37,6 +37,12 @@ impl<L: LadderSet, B: Book> Run<'_, L, B> {
     }
 }
 
+// What the houses of two runs answer.
+pub type Answers = (
+    Result<Settlement, HouseFault>,
+    Result<Settlement, HouseFault>,
+);
+
 // Both runs, and the question after each. Apart from `compare`, whose laws rest on this, so that a fault in a run is told here.
 // Series and edition stay two parameters, as they are two words of a line.
 fn ask_both<K: LadderSet, J: Book, L: LadderSet, B: Book>(
@@ -44,10 +50,7 @@ fn ask_both<K: LadderSet, J: Book, L: LadderSet, B: Book>(
     second: Run<'_, L, B>,
     series: i64,
     edition: Edition,
-) -> (
-    Result<Settlement, HouseFault>,
-    Result<Settlement, HouseFault>,
-)
+) -> Answers
     ensures one { result.0 ≡ answer_in (run_in K.LadderSet.size K.LadderSet.lawful J.Book.meaning first.entry) series edition }
     ensures other { result.1 ≡ answer_in (run_in L.LadderSet.size L.LadderSet.lawful B.Book.meaning second.entry) series edition }
     ensures first_after { world first.exit.0.now (J.Book.meaning first.exit.1.0.now) ≡ end (run_in K.LadderSet.size K.LadderSet.lawful J.Book.meaning first.entry) }
@@ -72,10 +75,7 @@ pub fn compare<K: LadderSet, J: Book, L: LadderSet, B: Book>(
     second: Run<'_, L, B>,
     series: i64,
     edition: Edition,
-) -> (
-    Result<Settlement, HouseFault>,
-    Result<Settlement, HouseFault>,
-)
+) -> Answers
     ensures laws { Laws (Comparable (run_in K.LadderSet.size K.LadderSet.lawful J.Book.meaning first.entry) (run_in L.LadderSet.size L.LadderSet.lawful B.Book.meaning second.entry) series edition) (run_in K.LadderSet.size K.LadderSet.lawful J.Book.meaning first.entry) (run_in L.LadderSet.size L.LadderSet.lawful B.Book.meaning second.entry) series edition result.0 result.1 }
     ensures first_after { world first.exit.0.now (J.Book.meaning first.exit.1.0.now) ≡ end (run_in K.LadderSet.size K.LadderSet.lawful J.Book.meaning first.entry) }
     ensures second_after { world second.exit.0.now (B.Book.meaning second.exit.1.0.now) ≡ end (run_in L.LadderSet.size L.LadderSet.lawful B.Book.meaning second.entry) }
@@ -90,33 +90,30 @@ pub fn compare<K: LadderSet, J: Book, L: LadderSet, B: Book>(
 // since the two makes need different things.
 pub fn compare_makes<K: LadderSet + Drop, L: LadderSet + Drop>(
     day: LawfulDay,
-    first: K,
+    set: K,
     capacity: usize,
     calls: &[Call],
-    second: L,
-    places: &mut [Entry],
-    others: &[Call],
+    other_set: L,
+    slots: &mut [Entry],
+    other_calls: &[Call],
     series: i64,
     edition: Edition,
-) -> (
-    Result<Settlement, HouseFault>,
-    Result<Settlement, HouseFault>,
-)
-    ensures laws { Laws (Alike (new_run K.LadderSet.size K.LadderSet.lawful first day.day (min capacity 30000) calls.now) (new_run L.LadderSet.size L.LadderSet.lawful second day.day (min (length places.old) 30000) others.now) series edition) (new_run K.LadderSet.size K.LadderSet.lawful first day.day (min capacity 30000) calls.now) (new_run L.LadderSet.size L.LadderSet.lawful second day.day (min (length places.old) 30000) others.now) series edition result.0 result.1 }
+) -> Answers
+    ensures laws { Laws (Alike (new_run K.LadderSet.size K.LadderSet.lawful set day.day (min capacity 30000) calls.now) (new_run L.LadderSet.size L.LadderSet.lawful other_set day.day (min (length slots.old) 30000) other_calls.now) series edition) (new_run K.LadderSet.size K.LadderSet.lawful set day.day (min capacity 30000) calls.now) (new_run L.LadderSet.size L.LadderSet.lawful other_set day.day (min (length slots.old) 30000) other_calls.now) series edition result.0 result.1 }
 {
-    let mut house = House::new(first);
+    let mut house = House::new(set);
     let mut board = Board::new(day, capacity);
-    let mut other = House::new(second);
-    let mut tape = Tape::new(day, places);
-    let one = Run {
+    let mut other_house = House::new(other_set);
+    let mut tape = Tape::new(day, slots);
+    let first = Run {
         house: &mut house,
         book: &mut board,
         calls,
     };
-    let other = Run {
-        house: &mut other,
+    let second = Run {
+        house: &mut other_house,
         book: &mut tape,
-        calls: others,
+        calls: other_calls,
     };
-    compare(one, other, series, edition)
+    compare(first, second, series, edition)
 }

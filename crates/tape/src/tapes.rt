@@ -8,11 +8,18 @@ ghost use Rattle.book.specs.Records.{every, recorded};
 use crate::scans::scan;
 use book::books::{Book, MOST, Reusable, admit};
 use book::days::Day;
-use book::entries::Entry;
+use book::entries::{Entry, Kind};
 use book::faults::BookFault;
 use book::lawful::LawfulDay;
 use book::marks::Values;
 use book::windows::edges;
+
+// What may fill the places that a tape is lent: it reads none of them before it has stored an entry there.
+pub const BLANK: Entry = Entry {
+    series: 0,
+    stamp: 0,
+    kind: Kind::Leg { price: 0, lots: 0 },
+};
 
 // The entries taken stand in the first `count` places, in the order taken. The caller lends the places: nothing here
 // allocates.

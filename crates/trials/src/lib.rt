@@ -13,7 +13,7 @@ mod tests {
     use book::windows::edges;
     use std::process::Abort;
     use std::test::Fail;
-    use tape::tapes::Tape;
+    use tape::tapes::{BLANK, Tape};
 
     const DAY: Day = Day {
         night: 61_200,
@@ -101,7 +101,7 @@ mod tests {
     #[test]
     fn last_figures(rt: HostRuntime) -> Result<(), Fail> {
         let day = LawfulDay::new(DAY)?;
-        let mut slots = [trade(0, 0); 8];
+        let mut slots = [BLANK; 8];
         last_trade(&rt, &mut Tape::new(day, &mut slots))?;
         last_quote(&rt, &mut Tape::new(day, &mut slots))?;
         last_trade(&rt, &mut Board::new(day, 8))?;
@@ -112,7 +112,7 @@ mod tests {
     fn window_edges(rt: HostRuntime) -> Result<(), Fail> {
         let day = LawfulDay::new(DAY)?;
         for window in 1..14 {
-            let mut slots = [trade(0, 0); 8];
+            let mut slots = [BLANK; 8];
             on_edges(&rt, &mut Tape::new(day, &mut slots), window)?;
             on_edges(&rt, &mut Board::new(day, 8), window)?;
         }
@@ -122,10 +122,10 @@ mod tests {
     #[test]
     fn full_books(rt: HostRuntime) -> Result<(), Fail> {
         let day = LawfulDay::new(DAY)?;
-        let mut slots = [trade(0, 0); 1];
+        let mut slots = [BLANK; 1];
         filled(&rt, &mut Tape::new(day, &mut slots))?;
         filled(&rt, &mut Board::new(day, 1))?;
-        let mut none = [trade(0, 0); 0];
+        let mut none = [BLANK; 0];
         let mut tape = Tape::new(day, &mut none);
         assert_eq!(rt; tape.take(trade(140_000, 10)), Err(BookFault::Full));
         assert_eq!(rt; tape.capacity(), 0);
