@@ -117,7 +117,7 @@ abbrev pub Alone : List ℕ → Result LineCall NotRead → Type 0
 Alone line (Ok c) = (d : LineCall) → BriefCall d → line ≡ written d → d ≡ c
 Alone line (Err e) = (p : ℕ) → Place line p → p ≡ e.place
 
--- the place is a byte of the line, or its end
+-- the line of a call has at most 200 bytes; of any other line the place is a byte of it, or its end
 abbrev pub Within : List ℕ → Result LineCall NotRead → Type 0
 Within line (Ok c) = length line ≤ 200
 Within line (Err e) = e.place ≤ length line

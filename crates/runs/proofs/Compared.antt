@@ -29,10 +29,9 @@ use Rattle.house.specs.declared.faults.HouseFault.TheVariants.{NoPrice}
 use Rattle.house.specs.declared.houses.House.{House}
 use Rattle.house.proofs.OnPath.{in_time}
 use Rattle.runs.specs.Kept.{on_path}
-use Rattle.runs.specs.Laws.{Alike, Asked, Comparable, Laws, MoreEvidence, RaisedEvidence, Run, SameEvidence, answer_in, end, new_run, path_of, run_of, taken_in}
+use Rattle.runs.specs.Laws.{Alike, Asked, Comparable, Laws, MoreEvidence, NoLater, NotLower, RaisedEvidence, Run, SameEvidence, answer_in, end, new_run, path_of, run_of, taken_in}
 use Rattle.runs.specs.Readings.{entries, listed, phase_after, stands}
 use Rattle.runs.specs.Runs.{World, after_run, new_world, taken}
-use Rattle.runs.specs.Stations.{NoLater, NotLower}
 use Rattle.runs.specs.declared.calls.Call.{Call}
 use Rattle.runs.proofs.AddedFigures.{more_figures}
 use Rattle.runs.proofs.Along.{StationLawful}

@@ -20,7 +20,7 @@ use Rattle.house.specs.declared.answers.Settlement.{Settlement}
 use Rattle.house.specs.declared.series.Ruling as rulings
 use Rattle.house.specs.declared.series.Series.{Series}
 use Rattle.runs.specs.Raised.{Matched}
-use Rattle.runs.specs.Stations.{NoLater}
+use Rattle.runs.specs.Laws.{NoLater}
 use Rattle.runs.proofs.AddedFigures.{StillThere, ValuesMore}
 use Rattle.runs.proofs.Along.{LawfulPair, StationLawful, along, lawful_pairs}
 use Rattle.runs.proofs.Inside.{average_inside}

@@ -29,8 +29,8 @@ use Rattle.house.specs.Found.{Station, above_theory, average, finds, found, less
 use Rattle.house.specs.declared.answers.Settlement.{Settlement}
 use Rattle.house.specs.declared.series.Ruling as rulings
 use Rattle.house.specs.declared.series.Series.{Series}
-use Rattle.runs.specs.Raised.{Matched, ValueRaised}
-use Rattle.runs.specs.Stations.{NotLower, RulingRaised, SeriesRaised}
+use Rattle.runs.specs.Raised.{Matched, RulingRaised, SeriesRaised, ValueRaised}
+use Rattle.runs.specs.Laws.{NotLower}
 use Rattle.runs.proofs.Along.{LawfulPair, StationLawful, along, lawful_pairs}
 use Rattle.runs.proofs.Inside.{average_inside, middle_inside, whole_inside}
 use Rattle.runs.proofs.RaisedFigures.{SidesRaised, ValuesRaised}

@@ -1,5 +1,5 @@
 -- Two runs, and what must be equal, raised or added in the evidence on the path of a series.
-use Rattle.std.specs.Prelude.{◌≡◌, ℕ, Bool, true, List, length, ℤ, Result, unsigned_abs}
+use Rattle.std.specs.Prelude.{◌≡◌, ℕ, ◌≤◌, Bool, true, List, length, ℤ, ◌≤ℤ◌, Ok, Err, Result, unsigned_abs}
 use Rattle.std.specs.List.{AllZip, AllByRecursion}
 use Rattle.book.specs.Ledgers.{Ledger}
 use Rattle.book.specs.declared.days.Day.{Day}
@@ -12,10 +12,9 @@ use Rattle.house.specs.declared.faults.HouseFault.{HouseFault}
 use Rattle.house.specs.declared.houses.House.{House}
 use Rattle.runs.specs.Added.{Among}
 use Rattle.runs.specs.Kept.{kept}
-use Rattle.runs.specs.Raised.{EntryRaised}
+use Rattle.runs.specs.Raised.{EntryRaised, SeriesRaised}
 use Rattle.runs.specs.Readings.{entries, listed, phase_after, stands}
 use Rattle.runs.specs.Runs.{World, after_run, new_world, taken, world}
-use Rattle.runs.specs.Stations.{NoLater, NotLower, SeriesRaised}
 use Rattle.runs.specs.declared.calls.Call.{Call}
 use Rattle.runs.specs.declared.comparing.Run as runs
 
@@ -96,6 +95,21 @@ pub record MoreEvidence (n : ℕ) (xs ys : List Call) : Type 0 where
   pub numbers : path_of xs n ≡ path_of ys n
   pub terms : AllByRecursion (λ k. stands xs k ≡ stands ys k) (path_of xs n)
   pub evidence : Among (kept (path_of xs n) (entries xs)) (kept (path_of xs n) (entries ys))
+
+-- ---- how the answers of two runs compare
+
+-- both settle, by the same step at the same place and the second at no lower price; or both are refused alike
+abbrev pub NotLower : {E : Type 0} → Result Settlement E → Result Settlement E → Type 0
+NotLower (Ok s) (Ok t) = (s.step ≡ t.step) × (s.place ≡ t.place) × (s.price ≤ℤ t.price)
+NotLower (Ok s) (Err p) = ⊥
+NotLower (Err o) (Ok t) = ⊥
+NotLower (Err o) (Err p) = o ≡ p
+
+-- where the first settles, the second settles too, at no later a place of the row
+abbrev pub NoLater : {E : Type 0} → Result Settlement E → Result Settlement E → Type 0
+NoLater (Ok s) (Ok t) = t.place ≤ s.place
+NoLater (Ok s) (Err p) = ⊥
+NoLater (Err o) b = Unit {0}
 
 -- ---- the laws, under a premise on both runs
 

@@ -1,7 +1,6 @@
 pub mod Kept
 pub mod Raised
 pub mod Added
-pub mod Stations
 pub mod Runs
 pub mod Readings
 pub mod Told
