@@ -70,10 +70,7 @@ spoken_held line s t out x = record { readings = x.readings; read = whole x.read
   where
     whole : (rs : List (Result LineCall NotRead)) → AllZip Parsed (held line ∷ []) rs → AllZip Parsed (line ∷ []) rs
     whole [] h = absurd h
-    whole (r ∷ rs) h = (parsed_held line r h.0, one rs h.1)
-      where
-        one : (rs : List (Result LineCall NotRead)) → AllZip Parsed [] rs → AllZip Parsed [] rs
-        one rs h = h
+    whole (r ∷ rs) h = (parsed_held line r h.0, h.1)
 
 pub spoken_line : (line : List ℕ) (s : Standing) (answer : Result Reply LineFault) (t : Standing) → Heard line s answer t → Spoken s (line ∷ []) (answer_text answer ++ (10 ∷ [])) t
 spoken_line line s answer t h = record {
