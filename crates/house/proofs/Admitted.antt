@@ -28,19 +28,19 @@ kept_lawful f n t h =
     and_from _ _ (ap (λ r. lawful_terms f n r t.settlement t.spread) same ∙ h) refl
 
 -- what holds of the terms of every lawful listing that there is room for, holds of the terms under which a series is listed
-pub listed_have : (Q : Terms → Type 0) (ladders : ℕ) (t : Listing) (s : State) → ((f : Family) → ltb s.roll.count 32 ≡ true → (is_ladder ladders t.ladder && lawful_terms f s.roll.count t.reference t.settlement t.spread) ≡ true → Q (terms_of f t)) → IfOk (listed_terms ladders t s) Q
+pub listed_have : (Q : Terms → Type 0) (ladders : ℕ) (t : Listing) (s : State) → ((f : Family) → family_of t.family ≡ Some f → ltb s.roll.count 32 ≡ true → (is_ladder ladders t.ladder && lawful_terms f s.roll.count t.reference t.settlement t.spread) ≡ true → Q (terms_of f t)) → IfOk (listed_terms ladders t s) Q
 listed_have Q ladders t s each =
     let n = s.roll.count in
     let found = checked n ladders t in
     cond_both (is_listing s.phase) (demand (ltb n 32) SeriesFull found) (Err WrongPhase) (λ r. IfOk r Q)
-    (λ _. cond_both (ltb n 32) found (Err SeriesFull) (λ r. IfOk r Q) (by (family_of t.family)) (λ _. tt))
+    (λ _. cond_both (ltb n 32) found (Err SeriesFull) (λ r. IfOk r Q) (by (family_of t.family) refl) (λ _. tt))
     (λ _. tt)
   where
-    by : (o : Option Family) → ltb s.roll.count 32 ≡ true → IfOk (checked_for o s.roll.count ladders t) Q
-    by None room = tt
-    by (Some f) room =
+    by : (o : Option Family) → family_of t.family ≡ o → ltb s.roll.count 32 ≡ true → IfOk (checked_for o s.roll.count ladders t) Q
+    by None is room = tt
+    by (Some f) is room =
         cond_both (is_ladder ladders t.ladder && lawful_terms f s.roll.count t.reference t.settlement t.spread) (Ok (terms_of f t)) (Err TermsNotLawful) (λ r. IfOk r Q)
-        (each f room)
+        (each f is room)
         (λ _. tt)
 
 -- the terms found, if any, are lawful for the series numbered n, and there is room for it
@@ -51,4 +51,4 @@ pub listed_lawful : (ladders : ℕ) (t : Listing) (s : State) → Admitted s.rol
 listed_lawful ladders t s =
     let n = s.roll.count in
     listed_have (λ (terms : Terms). (ltb n 32 ≡ true) × (lawful_series n (new_series terms) ≡ true)) ladders t s
-    (λ f room h. (room, kept_lawful f n t (and_parts (is_ladder ladders t.ladder) (lawful_terms f n t.reference t.settlement t.spread) h).1))
+    (λ f _ room h. (room, kept_lawful f n t (and_parts (is_ladder ladders t.ladder) (lawful_terms f n t.reference t.settlement t.spread) h).1))

@@ -1,9 +1,10 @@
 -- The house and the book are as the calls taken tell, and one call more keeps that so.
-use Rattle.std.proofs.Common.{◌≡◌, ℕ, ◌+◌, ◌<◌, ◌≤◌, Bool, true, false, ◌&&◌, eqb, ltb, List, [], ◌∷◌, ◌++◌, length, get_or, ℤ, pos, negsuc, nat_abs, is_ok, Some, None, Ok, Err, Option, Result, sym, refl, ap, ◌∙◌, subst, ⊎_elim, arith}
+use Rattle.std.proofs.Common.{◌≡◌, ℕ, ◌+◌, ◌<◌, ◌≤◌, Bool, true, false, eqb, ltb, List, [], ◌∷◌, ◌++◌, length, get_or, ℤ, pos, negsuc, nat_abs, is_ok, Some, None, Ok, Err, Option, Result, sym, refl, ap, ◌∙◌, subst, ⊎_elim, arith}
 use lib.Signed.{le_z}
+use Rattle.std.specs.Result.{IfOk}
 use Rattle.std.proofs.lemmas.List.{append-nil, get_or_append_left, get_or_past, get_or_push, flat_map_more, length_push}
 use Rattle.std.proofs.lemmas.List.Sums.{fold_push}
-use Rattle.std.proofs.lemmas.Bool.{and_parts, cases_eq, cases_lt, cond_both, cond-false, cond-true, eq-eqb, ltb-true, ne_eqb, true≢false}
+use Rattle.std.proofs.lemmas.Bool.{and_parts, cases_eq, cases_lt, cond-false, cond-true, eq-eqb, ltb-true, ne_eqb, true≢false}
 use Rattle.book.specs.Entries.{allowed, side_lawful}
 use Rattle.book.specs.Figures.{is_series}
 use Rattle.book.specs.Ledgers.{Ledger, answer, grown}
@@ -14,13 +15,11 @@ use Rattle.book.specs.declared.faults.BookFault.{BookFault}
 use Rattle.book.proofs.Folds.{every_push, recorded_push}
 use Rattle.book.proofs.Taking.{admitted}
 use Rattle.rows.specs.Families.{family_of}
-use Rattle.rows.specs.declared.families.Family.{Family}
-use Rattle.house.specs.Calls.{State, by_book, demand, entry_after, entry_answer, entry_passed, is_listing, listed_terms, may_rule, moved, ruling_after, ruling_answer, ruling_of, rung, then, theory_after, theory_answer, told, with_ruling, with_theory}
+use Rattle.house.specs.Calls.{State, by_book, demand, entry_after, entry_answer, entry_passed, listed_terms, may_rule, moved, ruling_after, ruling_answer, ruling_of, rung, then, theory_after, theory_answer, told, with_ruling, with_theory}
 use Rattle.house.specs.Rolls.{Roll, changed, is_listed, placed, with_listed}
 use Rattle.house.specs.Series.{blank, lawful_ruling, lawful_series, new_series}
-use Rattle.house.specs.Terms.{checked, checked_for, is_ladder, lawful_terms, terms_of}
 use Rattle.house.specs.declared.faults.HouseFault.{HouseFault}
-use Rattle.house.specs.declared.faults.HouseFault.TheVariants.{NoSuchSeries, SeriesFull, SuppliedBeyondLimits, TermsNotLawful, WrongPhase}
+use Rattle.house.specs.declared.faults.HouseFault.TheVariants.{NoSuchSeries, SuppliedBeyondLimits}
 use Rattle.house.specs.declared.phases.Bell.{Bell}
 use Rattle.house.specs.declared.phases.Bell.TheVariants as bells
 use Rattle.house.specs.declared.phases.Phase.{Phase}
@@ -29,7 +28,7 @@ use Rattle.house.specs.declared.series.Ruling.{Ruling}
 use Rattle.house.specs.declared.series.Series.{Series}
 use Rattle.house.specs.declared.terms.Listing.{Listing}
 use Rattle.house.specs.declared.terms.Terms.{Terms}
-use Rattle.house.proofs.Admitted.{Admitted, listed_lawful}
+use Rattle.house.proofs.Admitted.{Admitted, listed_have, listed_lawful}
 use Rattle.house.proofs.Slots.{lawful_ruled, lawful_theory}
 use Rattle.runs.specs.Readings.{entries, entries_in, last_ruling, last_theory, listed, phase_after, phase_by, phase_left, ruling_left, stands, terms_by, terms_in, theory_left}
 use Rattle.runs.specs.Runs.{World, is_taken, new_world, next}
@@ -150,30 +149,17 @@ roll_listed xs l r lawful t = record {
         refl)
 
 -- the terms found, if any, are those of the listing
-abbrev Named : Option Family → Listing → Result Terms HouseFault → Type 0
-Named f l (Ok terms) = terms ≡ terms_by f l
-Named f l (Err fault) = Unit {0}
-
-checked_named : (f : Option Family) (n ladders : ℕ) (l : Listing) → Named f l (checked_for f n ladders l)
-checked_named None n ladders l = tt
-checked_named (Some f) n ladders l =
-    cond_both (is_ladder ladders l.ladder && lawful_terms f n l.reference l.settlement l.spread) (Ok (terms_of f l)) (Err TermsNotLawful) (Named (Some f) l)
-    (λ _. refl)
-    (λ _. tt)
-
-listed_named : (ladders : ℕ) (l : Listing) (s : State) → Named (family_of l.family) l (listed_terms ladders l s)
+listed_named : (ladders : ℕ) (l : Listing) (s : State) → IfOk (listed_terms ladders l s) (λ terms. terms ≡ terms_by (family_of l.family) l)
 listed_named ladders l s =
-    let n = s.roll.count in
-    let terms = checked n ladders l in
-    let named = Named (family_of l.family) l in
-    cond_both (is_listing s.phase) (demand (ltb n 32) SeriesFull terms) (Err WrongPhase) named
-    (λ _. cond_both (ltb n 32) terms (Err SeriesFull) named (λ _. checked_named (family_of l.family) n ladders l) (λ _. tt))
-    (λ _. tt)
+    listed_have (λ (terms : Terms). terms ≡ terms_by (family_of l.family) l) ladders l s
+    (λ f is _ _. ap (λ o. terms_by o l) (sym is))
 
 told_listing : (ladders : ℕ) (xs : List Call) (l : Listing) (s : State) → is_ok (listed_terms ladders l s) ≡ true → RollTold xs s.roll → RollTold (xs ++ (ListCall l ∷ [])) (moved (listed_terms ladders l s) (λ terms. record { phase = s.phase; roll = with_listed terms s.roll }) s).roll
 told_listing ladders xs l s ok t =
     let f = found (listed_terms ladders l s) ok in
-    let is : f.0 ≡ terms_by (family_of l.family) l = subst (Named (family_of l.family) l) f.1 (listed_named ladders l s) in
+    let is : f.0 ≡ terms_by (family_of l.family) l =
+    subst (λ (r : Result Terms HouseFault). IfOk r (λ (terms : Terms). terms ≡ terms_by (family_of l.family) l)) f.1 (listed_named ladders l s)
+    in
     let here : Admitted s.roll.count (Ok f.0) = subst (Admitted s.roll.count) f.1 (listed_lawful ladders l s) in
     subst (λ (r : Result Terms HouseFault). RollTold (xs ++ (ListCall l ∷ [])) (moved r (λ terms. record { phase = s.phase; roll = with_listed terms s.roll }) s).roll) (sym (f.1 ∙ ap Ok is))
     (roll_listed xs l s.roll (ap (λ terms. lawful_series s.roll.count (new_series terms)) (sym is) ∙ here.1) t)
