@@ -29,8 +29,8 @@ const LISTING: Listing = Listing {
     family: 1,
     ladder: 0,
     reference: None,
-    settlement: None,
-    spread: None,
+    previous_settlement: None,
+    previous_spread: None,
     marks: Marks {
         last_day: false,
         quarter_end: false,

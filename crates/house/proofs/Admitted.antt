@@ -22,13 +22,13 @@ kept_reference : (f : Family) (n : ℕ) (r : Option ℤ) → lawful_reference f 
 kept_reference f n None h = refl
 kept_reference f n (Some r) h = ap Some (kept_number r (lt_z r (pos n)) (and_parts _ _ h).1)
 
-kept_lawful : (f : Family) (n : ℕ) (t : Listing) → lawful_terms f n t.reference t.settlement t.spread ≡ true → lawful_series n (new_series (terms_of f t)) ≡ true
+kept_lawful : (f : Family) (n : ℕ) (t : Listing) → lawful_terms f n t.reference t.previous_settlement t.previous_spread ≡ true → lawful_series n (new_series (terms_of f t)) ≡ true
 kept_lawful f n t h =
     let same = kept_reference f n t.reference (and_parts _ _ h).0 in
-    and_from _ _ (ap (λ r. lawful_terms f n r t.settlement t.spread) same ∙ h) refl
+    and_from _ _ (ap (λ r. lawful_terms f n r t.previous_settlement t.previous_spread) same ∙ h) refl
 
 -- what holds of the terms of every lawful listing that there is room for, holds of the terms under which a series is listed
-pub listed_have : (Q : Terms → Type 0) (ladders : ℕ) (t : Listing) (s : State) → ((f : Family) → family_of t.family ≡ Some f → ltb s.roll.count 32 ≡ true → (is_ladder ladders t.ladder && lawful_terms f s.roll.count t.reference t.settlement t.spread) ≡ true → Q (terms_of f t)) → IfOk (listed_terms ladders t s) Q
+pub listed_have : (Q : Terms → Type 0) (ladders : ℕ) (t : Listing) (s : State) → ((f : Family) → family_of t.family ≡ Some f → ltb s.roll.count 32 ≡ true → (is_ladder ladders t.ladder && lawful_terms f s.roll.count t.reference t.previous_settlement t.previous_spread) ≡ true → Q (terms_of f t)) → IfOk (listed_terms ladders t s) Q
 listed_have Q ladders t s each =
     let n = s.roll.count in
     let found = checked n ladders t in
@@ -39,7 +39,7 @@ listed_have Q ladders t s each =
     by : (o : Option Family) → family_of t.family ≡ o → ltb s.roll.count 32 ≡ true → IfOk (checked_for o s.roll.count ladders t) Q
     by None is room = tt
     by (Some f) is room =
-        cond_both (is_ladder ladders t.ladder && lawful_terms f s.roll.count t.reference t.settlement t.spread) (Ok (terms_of f t)) (Err TermsNotLawful) (λ r. IfOk r Q)
+        cond_both (is_ladder ladders t.ladder && lawful_terms f s.roll.count t.reference t.previous_settlement t.previous_spread) (Ok (terms_of f t)) (Err TermsNotLawful) (λ r. IfOk r Q)
         (each f is room)
         (λ _. tt)
 
@@ -51,4 +51,4 @@ pub listed_lawful : (ladders : ℕ) (t : Listing) (s : State) → Admitted s.rol
 listed_lawful ladders t s =
     let n = s.roll.count in
     listed_have (λ (terms : Terms). (ltb n 32 ≡ true) × (lawful_series n (new_series terms) ≡ true)) ladders t s
-    (λ f _ room h. (room, kept_lawful f n t (and_parts (is_ladder ladders t.ladder) (lawful_terms f n t.reference t.settlement t.spread) h).1))
+    (λ f _ room h. (room, kept_lawful f n t (and_parts (is_ladder ladders t.ladder) (lawful_terms f n t.reference t.previous_settlement t.previous_spread) h).1))

@@ -35,7 +35,7 @@ admitted_on : (ladders : ℕ) (t : Listing) (s : State) (terms : Terms) → Ok t
 admitted_on ladders t s terms is =
     subst (λ (r : Result Terms HouseFault). IfOk r (λ (u : Terms). u.ladder < ladders)) (sym is)
     (listed_have (λ (u : Terms). u.ladder < ladders) ladders t s
-    (λ f _ _ h. kept_ladder ladders t.ladder (and_parts (is_ladder ladders t.ladder) (lawful_terms f s.roll.count t.reference t.settlement t.spread) h).0))
+    (λ f _ _ h. kept_ladder ladders t.ladder (and_parts (is_ladder ladders t.ladder) (lawful_terms f s.roll.count t.reference t.previous_settlement t.previous_spread) h).0))
 
 -- after a listing
 pub listed_on : (ladders : ℕ) (t : Listing) (s : State) (terms : Terms) (after : Roll) → OnLadders ladders s.roll → Ok terms ≡ listed_terms ladders t s → after ≡ with_listed terms s.roll → OnLadders ladders after

@@ -33,8 +33,8 @@ above_found P near v (Some p) h = ap Some (above_value P near v p h.1) ∙ sym (
 -- ---- what is known of a lawful series and of bounded figures, part by part
 
 pub record SeriesParts (s : Series) : Type 0 where
-  pub settlement : side_lawful s.terms.settlement ≡ true
-  pub spread : spread_if s.terms.spread ≡ true
+  pub previous_settlement : side_lawful s.terms.previous_settlement ≡ true
+  pub previous_spread : spread_if s.terms.previous_spread ≡ true
   pub theory : side_lawful s.theory ≡ true
   pub ruling : lawful_ruling s.ruling ≡ true
 
@@ -43,15 +43,15 @@ series_parts n s h =
     let whole = and_parts _ _ h in
     let supplied = and_parts _ _ whole.1 in
     let previous = and_parts _ _ (and_parts _ _ whole.0).1 in
-    record { settlement = previous.0; spread = any_spread s.terms.spread previous.1; theory = supplied.0; ruling = supplied.1 }
+    record { previous_settlement = previous.0; previous_spread = any_spread s.terms.previous_spread previous.1; theory = supplied.0; ruling = supplied.1 }
   where
     any_spread : (v : Option ℤ) → lawful_spread s.terms.family v ≡ true → spread_if v ≡ true
     any_spread None e = refl
     any_spread (Some v) e = (and_parts _ _ e).1
 
 -- the previous spread that a series has, if any, is within the limits of spreads
-pub previous_spread : (n : ℕ) (s : Series) → lawful_series n s ≡ true → spread_if s.terms.spread ≡ true
-previous_spread n s h = (series_parts n s h).spread
+pub previous_spread_within : (n : ℕ) (s : Series) → lawful_series n s ≡ true → spread_if s.terms.previous_spread ≡ true
+previous_spread_within n s h = (series_parts n s h).previous_spread
 
 -- ---- how far prices reach
 
@@ -144,9 +144,9 @@ finds_reach P near n k p s v Average h r b = nearest_reach P near n v.money (nat
 finds_reach P near n k p s v Theory h r b = (theory_reach P near n s.theory).0
 finds_reach P near n k p s v TheoryUp h r b = (theory_reach P near n s.theory).1
 finds_reach P near n k p s v Spread h r b = less_reach n p v.spread r (parts k v b).spread
-finds_reach P near n k p s v PreviousSpread h r b = less_reach n p s.terms.spread r (previous_spread n s h)
+finds_reach P near n k p s v PreviousSpread h r b = less_reach n p s.terms.previous_spread r (previous_spread_within n s h)
 finds_reach P near n k p s v Copy h r b = before_reach n p r
-finds_reach P near n k p s v Previous h r b = within_reach n s.terms.settlement (series_parts n s h).settlement
+finds_reach P near n k p s v Previous h r b = within_reach n s.terms.previous_settlement (series_parts n s h).previous_settlement
 finds_reach P near n k p s v Ruling h r b = ruling_reach n s.ruling (series_parts n s h).ruling
 
 -- a ruling that stands with the first mark is the answer, and within the limit

@@ -25,9 +25,9 @@ earlier_reference f n r h =
 pub earlier : (n : ℕ) (s : Series) (r : ℕ) → lawful_series n s ≡ true → s.terms.reference ≡ Some r → r < n
 earlier n s r h is =
     let t = s.terms in
-    let terms = lawful_terms t.family n (integer_if t.reference) t.settlement t.spread in
+    let terms = lawful_terms t.family n (integer_if t.reference) t.previous_settlement t.previous_spread in
     let whole = and_parts terms (side_lawful s.theory && lawful_ruling s.ruling) h in
-    let rest = and_parts (lawful_reference t.family n (integer_if t.reference)) (side_lawful t.settlement && lawful_spread t.family t.spread) whole.0 in
+    let rest = and_parts (lawful_reference t.family n (integer_if t.reference)) (side_lawful t.previous_settlement && lawful_spread t.family t.previous_spread) whole.0 in
     earlier_reference t.family n r (subst (λ (o : Option ℕ). lawful_reference t.family n (integer_if o) ≡ true) is rest.0)
 
 -- ---- more steps than there are references change nothing

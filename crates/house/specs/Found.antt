@@ -59,9 +59,9 @@ finds lawful reference s v Average = average lawful v.money v.lots
 finds lawful reference s v Theory = nearest_theory lawful s.theory
 finds lawful reference s v TheoryUp = above_theory lawful s.theory
 finds lawful reference s v Spread = less reference v.spread
-finds lawful reference s v PreviousSpread = less reference s.terms.spread
+finds lawful reference s v PreviousSpread = less reference s.terms.previous_spread
 finds lawful reference s v Copy = reference
-finds lawful reference s v Previous = s.terms.settlement
+finds lawful reference s v Previous = s.terms.previous_settlement
 finds lawful reference s v Ruling = ruled s.ruling
 
 -- what a place of a row finds for a series

@@ -18,8 +18,8 @@ bare_terms f reference = record {
   family = f;
   ladder = 0;
   reference = reference;
-  settlement = None;
-  spread = None;
+  previous_settlement = None;
+  previous_spread = None;
   marks = record { last_day = false; quarter_end = false };
 }
 
@@ -38,5 +38,5 @@ lawful_ruling (Some r) = price_lawful r.value
 -- what holds of the series numbered n: its terms are lawful, and what was supplied lies within the price limit
 abbrev pub lawful_series : ℕ → Series → Bool
 lawful_series n s =
-    lawful_terms s.terms.family n (integer_if s.terms.reference) s.terms.settlement s.terms.spread
+    lawful_terms s.terms.family n (integer_if s.terms.reference) s.terms.previous_settlement s.terms.previous_spread
     && (side_lawful s.theory && lawful_ruling s.ruling)

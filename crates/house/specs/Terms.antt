@@ -35,7 +35,8 @@ lawful_spread f (Some v) = follows f && spread_lawful v
 
 -- reference, previous settlement and previous spread of the series numbered n
 abbrev pub lawful_terms : Family → ℕ → Option ℤ → Option ℤ → Option ℤ → Bool
-lawful_terms f n reference settlement spread = lawful_reference f n reference && (side_lawful settlement && lawful_spread f spread)
+lawful_terms f n reference previous_settlement previous_spread =
+    lawful_reference f n reference && (side_lawful previous_settlement && lawful_spread f previous_spread)
 
 abbrev pub is_ladder : ℕ → ℤ → Bool
 is_ladder ladders l = is_under ladders l
@@ -50,15 +51,15 @@ terms_of f t = record {
   family = f;
   ladder = unsigned_abs t.ladder;
   reference = natural_if t.reference;
-  settlement = t.settlement;
-  spread = t.spread;
+  previous_settlement = t.previous_settlement;
+  previous_spread = t.previous_spread;
   marks = t.marks;
 }
 
 abbrev pub checked_for : Option Family → ℕ → ℕ → Listing → Result Terms HouseFault
 checked_for None n ladders t = Err TermsNotLawful
 checked_for (Some f) n ladders t =
-    cond (is_ladder ladders t.ladder && lawful_terms f n t.reference t.settlement t.spread) (Ok (terms_of f t)) (Err TermsNotLawful)
+    cond (is_ladder ladders t.ladder && lawful_terms f n t.reference t.previous_settlement t.previous_spread) (Ok (terms_of f t)) (Err TermsNotLawful)
 
 -- the terms of the series numbered n, over a set of so many ladders; they are lawful as a whole or refused
 abbrev pub checked : ℕ → ℕ → Listing → Result Terms HouseFault

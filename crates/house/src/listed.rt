@@ -23,8 +23,8 @@ fn blank() -> Series
         family: Family::LongBond,
         ladder: 0,
         reference: None,
-        settlement: None,
-        spread: None,
+        previous_settlement: None,
+        previous_spread: None,
         marks,
     };
     Series::new(terms)

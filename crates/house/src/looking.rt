@@ -1,5 +1,5 @@
 // What each step finds.
-#![tactic(auto, using(crate::proofs::Looked::previous_spread))]
+#![tactic(auto, using(crate::proofs::Looked::previous_spread_within))]
 
 ghost use Rattle.std.specs.Prelude.{◌≡◌, ◌≤◌, true, unsigned_abs};
 ghost use Rattle.book.specs.Bounds.{bounded, spread_if};
@@ -78,9 +78,9 @@ impl<L: LadderSet, B: Book> Question<'_, L, B> {
             Step::Theory => self.nearest_theory(),
             Step::TheoryUp => self.above_theory(),
             Step::Spread => less(self.number, reference, values.spread.map(i64::from)),
-            Step::PreviousSpread => less(self.number, reference, series.terms.spread),
+            Step::PreviousSpread => less(self.number, reference, series.terms.previous_spread),
             Step::Copy => reference,
-            Step::Previous => series.terms.settlement,
+            Step::Previous => series.terms.previous_settlement,
             Step::Ruling => series.ruling.map(|ruling| ruling.value),
         }
     }

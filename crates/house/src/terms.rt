@@ -17,8 +17,8 @@ pub struct Listing {
     // The series that this one follows or copies.
     pub reference: Option<i64>,
     // The previous day's settlement price, and the previous spread to the reference.
-    pub settlement: Option<i64>,
-    pub spread: Option<i64>,
+    pub previous_settlement: Option<i64>,
+    pub previous_spread: Option<i64>,
     pub marks: Marks,
 }
 
@@ -28,8 +28,8 @@ pub struct Terms {
     pub family: Family,
     pub ladder: u8,
     pub reference: Option<u8>,
-    pub settlement: Option<i64>,
-    pub spread: Option<i64>,
+    pub previous_settlement: Option<i64>,
+    pub previous_spread: Option<i64>,
     pub marks: Marks,
 }
 
@@ -90,9 +90,9 @@ fn is_lawful_spread(family: Family, spread: Option<i64>) -> bool
 impl Listing {
     // Whether a series of the family may have the previous settlement and the previous spread.
     fn has_lawful_previous(&self, family: Family) -> bool
-        ensures { result ≡ (side_lawful self.now.settlement && lawful_spread family self.now.spread) }
+        ensures { result ≡ (side_lawful self.now.previous_settlement && lawful_spread family self.now.previous_spread) }
     {
-        is_side(self.settlement) && is_lawful_spread(family, self.spread)
+        is_side(self.previous_settlement) && is_lawful_spread(family, self.previous_spread)
     }
 
     // The terms of the series numbered n, over a set of so many ladders, if they are lawful as a whole.
@@ -109,8 +109,8 @@ impl Listing {
             family,
             ladder,
             reference,
-            settlement: self.settlement,
-            spread: self.spread,
+            previous_settlement: self.previous_settlement,
+            previous_spread: self.previous_spread,
             marks: self.marks,
         })
     }

@@ -92,8 +92,8 @@ mod tests {
                 family,
                 ladder: 0,
                 reference,
-                settlement: None,
-                spread: None,
+                previous_settlement: None,
+                previous_spread: None,
                 marks: NO_MARKS,
             }
         }
@@ -361,7 +361,7 @@ mod tests {
         #[test]
         fn far_origins(rt: HostRuntime) -> Result<(), Fail> {
             let following = Listing {
-                spread: Some(10),
+                previous_spread: Some(10),
                 ..listing(2, Some(0))
             };
             let mut house = closed(&[listing(1, None), following, listing(8, Some(1))])?;
@@ -873,8 +873,8 @@ mod tests {
             from: usize,
         ) -> Result<House<EvenSet>, Fail> {
             let walked = Listing {
-                settlement: has(row, from, "B").then_some(480),
-                spread: has(row, from, "P").then_some(-40),
+                previous_settlement: has(row, from, "B").then_some(480),
+                previous_spread: has(row, from, "P").then_some(-40),
                 marks,
                 ..listing(family, reference_of(family))
             };
@@ -1148,7 +1148,7 @@ mod tests {
             let mut house = listed(&[listing(1, None)])?;
             for family in 1..16 {
                 let terms = Listing {
-                    spread: Some(0),
+                    previous_spread: Some(0),
                     ..listing(family, reference_of(family))
                 };
                 let number = if family == 2 { 0 } else { 5 };
@@ -1161,7 +1161,7 @@ mod tests {
                 (-100_000_001, 5),
             ] {
                 let terms = Listing {
-                    spread: Some(spread),
+                    previous_spread: Some(spread),
                     ..listing(2, Some(0))
                 };
                 tells(&rt, house.list(terms), number, "by the limit");
@@ -1185,7 +1185,7 @@ mod tests {
                 (i64::MIN, 5),
             ] {
                 let terms = Listing {
-                    settlement: Some(value),
+                    previous_settlement: Some(value),
                     ..listing(12, None)
                 };
                 tells(&rt, house.list(terms), number, "by the limit");

@@ -84,7 +84,7 @@ parts_lawful k v = tuple_lawful (sorts k) v
 
 abbrev pub call_of : (k : Command) → Parts k → LineCall
 call_of commands.Day v = lines.Day (record { night = v.0; opening = v.1.0; afternoon = v.1.1.0; close = v.1.1.1.0; cut = v.1.1.1.1.0 }) (v.1.1.1.1.1.0 ∷ v.1.1.1.1.1.1.0 ∷ v.1.1.1.1.1.1.1.0 ∷ v.1.1.1.1.1.1.1.1.0 ∷ [])
-call_of commands.List v = lines.Call (calls.List (record { family = v.0; ladder = v.1.0; reference = v.1.1.0; settlement = v.1.1.1.0; spread = v.1.1.1.1.0; marks = record { last_day = v.1.1.1.1.1.0; quarter_end = v.1.1.1.1.1.1.0 } }))
+call_of commands.List v = lines.Call (calls.List (record { family = v.0; ladder = v.1.0; reference = v.1.1.0; previous_settlement = v.1.1.1.0; previous_spread = v.1.1.1.1.0; marks = record { last_day = v.1.1.1.1.1.0; quarter_end = v.1.1.1.1.1.1.0 } }))
 call_of commands.Bell v = lines.Call (calls.Ring v.0)
 call_of commands.Trade v = lines.Call (calls.Enter (record { series = v.0; stamp = v.1.0; kind = kinds.Trade v.1.1.0 v.1.1.1.0 }))
 call_of commands.Auction v = lines.Call (calls.Enter (record { series = v.0; stamp = v.1.0; kind = kinds.Auction v.1.1.0 v.1.1.1.0 }))
@@ -136,7 +136,7 @@ made_entry n stamp (kinds.Spread x) b d e = ((n, (stamp, (x, tt))), (b, (d, (e, 
 pub made : (c : LineCall) → BriefCall c → Made (command c) c
 made (lines.Day d ts) b = made_day d ts b
 made (lines.Call (calls.List t)) b = (
-  (t.family, (t.ladder, (t.reference, (t.settlement, (t.spread, (t.marks.last_day, (t.marks.quarter_end, tt))))))),
+  (t.family, (t.ladder, (t.reference, (t.previous_settlement, (t.previous_spread, (t.marks.last_day, (t.marks.quarter_end, tt))))))),
   (b.0, (b.1, (b.2, (b.3, (b.4, (tt, (tt, tt))))))),
   refl,
   refl,

@@ -57,7 +57,7 @@ abbrev pub values : LineCall → List (List ℕ)
 values (lines.Day d ts) =
     signed_decimal d.night ∷ signed_decimal d.opening ∷ signed_decimal d.afternoon ∷ signed_decimal d.close ∷ signed_decimal d.cut ∷ map signed_decimal ts
 values (lines.Call (calls.List t)) =
-    signed_decimal t.family ∷ signed_decimal t.ladder ∷ signed_if t.reference ∷ signed_if t.settlement ∷ signed_if t.spread
+    signed_decimal t.family ∷ signed_decimal t.ladder ∷ signed_if t.reference ∷ signed_if t.previous_settlement ∷ signed_if t.previous_spread
     ∷ mark t.marks.last_day ∷ mark t.marks.quarter_end ∷ []
 values (lines.Call (calls.Ring b)) = bell_word b ∷ []
 values (lines.Call (calls.Enter e)) = signed_decimal e.series ∷ signed_decimal e.stamp ∷ kind_values e.kind
@@ -89,7 +89,7 @@ abbrev pub BriefCall : LineCall → Type 0
 BriefCall (lines.Day d ts) =
     (Brief d.night × Brief d.opening × Brief d.afternoon × Brief d.close × Brief d.cut) × (length ts ≡ 4) × AllBrief ts
 BriefCall (lines.Call (calls.List t)) =
-    Brief t.family × Brief t.ladder × BriefIf t.reference × BriefIf t.settlement × BriefIf t.spread
+    Brief t.family × Brief t.ladder × BriefIf t.reference × BriefIf t.previous_settlement × BriefIf t.previous_spread
 BriefCall (lines.Call (calls.Ring b)) = Unit {0}
 BriefCall (lines.Call (calls.Enter e)) = Brief e.series × Brief e.stamp × BriefKind e.kind
 BriefCall (lines.Call (calls.SetTheory n v)) = Brief n × BriefIf v

@@ -60,8 +60,8 @@ mod tests {
                 family: 3,
                 ladder: 0,
                 reference: Some(1),
-                settlement: None,
-                spread: Some(-250),
+                previous_settlement: None,
+                previous_spread: Some(-250),
                 marks: Marks {
                     last_day: false,
                     quarter_end: true,

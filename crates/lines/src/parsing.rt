@@ -53,16 +53,15 @@ fn read_day(reader: &mut Reader<'_>) -> Result<LineCall, NotRead>
 fn read_list(reader: &mut Reader<'_>) -> Result<LineCall, NotRead>
     ensures { ReadFrom values (Named commands.List) reader.old result }
 {
-    let (family, (ladder, (reference, (settlement, (spread, marks))))) = ListFields::from_fields(
-        reader,
-    )?;
+    let (family, (ladder, (reference, (previous_settlement, (previous_spread, marks))))) =
+        ListFields::from_fields(reader)?;
     let (last_day, (quarter_end, ())) = marks;
     Ok(LineCall::Call(Call::List(Listing {
         family,
         ladder,
         reference,
-        settlement,
-        spread,
+        previous_settlement,
+        previous_spread,
         marks: Marks {
             last_day,
             quarter_end,

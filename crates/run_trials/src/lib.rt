@@ -39,8 +39,8 @@ mod tests {
             family,
             ladder: 0,
             reference,
-            settlement: None,
-            spread: None,
+            previous_settlement: None,
+            previous_spread: None,
             marks: Marks {
                 last_day: false,
                 quarter_end: false,

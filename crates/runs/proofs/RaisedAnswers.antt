@@ -129,9 +129,9 @@ module _ (P : ℤ → Bool) (near : (z : ℤ) → Near P z) where
   finds_raised r q s t v w k l ls lt lv lw reference series values Spread =
       subst (λ (o : Option ℤ). ValueRaised (less r v.spread) (less q o)) values.spread (less_raised r q v.spread reference)
   finds_raised r q s t v w k l ls lt lv lw reference series values PreviousSpread =
-      subst (λ (o : Option ℤ). ValueRaised (less r s.terms.spread) (less q o)) series.spread (less_raised r q s.terms.spread reference)
+      subst (λ (o : Option ℤ). ValueRaised (less r s.terms.previous_spread) (less q o)) series.previous_spread (less_raised r q s.terms.previous_spread reference)
   finds_raised r q s t v w k l ls lt lv lw reference series values Copy = reference
-  finds_raised r q s t v w k l ls lt lv lw reference series values Previous = series.settlement
+  finds_raised r q s t v w k l ls lt lv lw reference series values Previous = series.previous_settlement
   finds_raised r q s t v w k l ls lt lv lw reference series values Ruling = ruled_raised s.ruling t.ruling series.ruling
 
 -- ---- one row

@@ -42,8 +42,8 @@ pub record SeriesRaised (s t : Series) : Type 0 where
   pub family : s.terms.family ≡ t.terms.family
   pub ladder : s.terms.ladder ≡ t.terms.ladder
   pub reference : s.terms.reference ≡ t.terms.reference
-  pub settlement : ValueRaised s.terms.settlement t.terms.settlement
-  pub spread : s.terms.spread ≡ t.terms.spread
+  pub previous_settlement : ValueRaised s.terms.previous_settlement t.terms.previous_settlement
+  pub previous_spread : s.terms.previous_spread ≡ t.terms.previous_spread
   pub marks : s.terms.marks ≡ t.terms.marks
   pub theory : ValueRaised s.theory t.theory
   pub ruling : Matched RulingRaised s.ruling t.ruling
