@@ -31,6 +31,7 @@ mod tests {
         use rows::steps::Step;
         use std::process::Abort;
         use std::test::*;
+        pub(crate) use tape::tapes::BLANK;
 
         // On this day all thirteen windows differ.
         pub(crate) const DAY: Day = Day {
@@ -44,13 +45,6 @@ mod tests {
         pub(crate) const NO_MARKS: Marks = Marks {
             last_day: false,
             quarter_end: false,
-        };
-
-        // What stands in a tape's places before it is used.
-        pub(crate) const BLANK: Entry = Entry {
-            series: 0,
-            stamp: 0,
-            kind: Kind::Leg { price: 0, lots: 0 },
         };
 
         // A house over two ladders, of tick 10 and of tick 1.
