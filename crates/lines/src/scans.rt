@@ -20,7 +20,7 @@ fn field_end(line: &[u8], start: usize) -> usize
 
 impl<'a> Reader<'a> {
     // The line's first field, and the reader at its end.
-    pub fn begin(line: &'a [u8]) -> (&'a [u8], Reader<'a>)
+    pub(crate) fn begin(line: &'a [u8]) -> (&'a [u8], Reader<'a>)
         requires { length line.now ≤ 200 }
         ensures line { result.1.line.now ≡ line.now }
         ensures at { result.1.at ≡ length result.0.now }
