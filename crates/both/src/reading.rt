@@ -1,5 +1,5 @@
 // The line form: a command and its fields, with one space between them. A minus alone is a missing number. Much of it
-// stands in `figures` too: the two programs share no crate.
+// stands in `figures` too: the two programs have no crate of their own in common.
 use anyhow::anyhow;
 use book::days::Day;
 use book::entries::{Entry, Kind};

@@ -1,6 +1,7 @@
 // The answer for one series.
 ghost use Rattle.std.specs.Prelude.{◌≡◌, ℕ, ◌+◌, ◌<◌, true, None, slice_index_or};
 ghost use Rattle.std.proofs.Props.{props};
+ghost use Rattle.rows.specs.Chosen.{chosen};
 ghost use Rattle.rows.specs.Codes.{at};
 ghost use Rattle.house.specs.Answers.{answered, by_row, first_found, origin, origin_of, price_of, refers, row_of, some_refers};
 ghost use Rattle.house.specs.Found.{found};
@@ -12,7 +13,7 @@ use crate::series::{Ruling, Series};
 use book::books::Book;
 use ladders::sets::LadderSet;
 use rows::choosing::choose;
-use rows::places::{Edition, Place};
+use rows::places::{Choice, Edition, Place};
 use rows::steps::Step;
 use rows::tables::{PLACES, place_at, places};
 use std::alloc::AllocError;
@@ -86,24 +87,26 @@ fn origin_of(number: u8, reference: Option<Answer>) -> u8
 impl<L: LadderSet, B: Book> Question<'_, L, B> {
     ghost use Rattle.house.specs.Asked.{station_in};
 
-    // The places of the row by which the series is settled.
+    // Which of the family's rows settles the series.
+    fn choice(&self) -> Choice
+        ensures { result ≡ chosen self.now.series.terms.family self.now.series.terms.marks self.now.edition }
+    {
+        let terms = self.series.terms;
+        choose(terms.family, terms.marks, self.edition)
+    }
+
+    // The places of that row.
     fn places(&self) -> [Option<Place>; PLACES]
         ensures { (k : ℕ) → slice_index_or result k None ≡ at (row_of self.now.series self.now.edition) k }
     {
-        let terms = self.series.terms;
-        places(
-            terms.family,
-            choose(terms.family, terms.marks, self.edition),
-        )
+        places(self.series.terms.family, self.choice())
     }
 
-    // The place of that row at a position from 0 on; nothing past its end.
+    // Its place at a position from 0 on; nothing past its end.
     fn place_at(&self, position: usize) -> Option<Place>
         ensures { result ≡ at (row_of self.now.series self.now.edition) position }
     {
-        let terms = self.series.terms;
-        let choice = choose(terms.family, terms.marks, self.edition);
-        place_at(terms.family, choice, position)
+        place_at(self.series.terms.family, self.choice(), position)
     }
 
     // What a place of the row finds.
@@ -121,8 +124,8 @@ impl<L: LadderSet, B: Book> Question<'_, L, B> {
         ensures value { result ≡ first_found (found (L.LadderSet.lawful self.now.set.now) (price_of self.now.reference) (station_in B.Book.meaning self.now)) 1 (row_of self.now.series self.now.edition) }
         ensures reach { FoundInReach self.now.number result }
     {
-        // A loop, since it ends at an empty place as well as at a price; the position is told with the price. Most rows find a
-        // price at once: the places after it are not looked up.
+        // A loop, since it ends at an empty place as well as at a price; the position is told with the price. The places after
+        // that price are not looked up.
         for position in 0..PLACES {
             let place = self.place_at(position)?;
             if let Some(price) = self.look(place) {

@@ -1,5 +1,5 @@
 // The worked prices, as one list: each is proved of what the steps and answers mean, and the tests of `house_trials` try them.
-ghost use Rattle.std.specs.Prelude.{◌≡◌, Err};
+ghost use Rattle.std.specs.Prelude.{◌≡◌, Some, None, Err};
 ghost use Rattle.std.specs.List.{AllByRecursion};
 ghost use Rattle.house.specs.Faults.{house_number};
 ghost use Rattle.house.specs.Questions.{as_told};
@@ -21,6 +21,31 @@ pub struct WorkedPrice {
     pub price: i64,
 }
 
+// Tick 10, with all matter missing.
+const NOTHING: WorkedPrice = WorkedPrice {
+    tick: 10,
+    step: Step::Theory,
+    reference: None,
+    theory: None,
+    spread: None,
+    bid: None,
+    ask: None,
+    price: 0,
+};
+
+// The price that a theory value gives.
+fn by_theory(tick: u32, step: Step, theory: i64, price: i64) -> WorkedPrice
+    ensures { result ≡ record { tick = tick; step = step; reference = None; theory = Some theory; spread = None; bid = None; ask = None; price = price } }
+{
+    WorkedPrice {
+        tick,
+        step,
+        theory: Some(theory),
+        price,
+        ..NOTHING
+    }
+}
+
 // Beside the prices stands the origin of the refusal of family 8 on family 2 on family 1, numbered from 0 in the order of
 // listing, at the close and all without evidence: the family 1 series.
 pub fn worked_prices() -> ([WorkedPrice; 7], u8)
@@ -28,58 +53,25 @@ pub fn worked_prices() -> ([WorkedPrice; 7], u8)
     ensures refused { bare_chain ≡ Err result.1 }
     ensures told { (as_told bare_chain ≡ Err (NoPrice result.1)) × (house_number (NoPrice result.1) ≡ 10) }
 {
-    let nothing = WorkedPrice {
-        tick: 10,
-        step: Step::Theory,
-        reference: None,
-        theory: None,
-        spread: None,
-        bid: None,
-        ask: None,
-        price: 0,
-    };
     let prices = [
-        WorkedPrice {
-            tick: 10_000,
-            theory: Some(38_514_999),
-            price: 38_510_000,
-            ..nothing
-        },
-        WorkedPrice {
-            theory: Some(-15),
-            price: -10,
-            ..nothing
-        },
-        WorkedPrice {
-            theory: Some(-16),
-            price: -20,
-            ..nothing
-        },
-        WorkedPrice {
-            step: Step::TheoryUp,
-            theory: Some(101),
-            price: 110,
-            ..nothing
-        },
-        WorkedPrice {
-            step: Step::TheoryUp,
-            theory: Some(-101),
-            price: -100,
-            ..nothing
-        },
+        by_theory(10_000, Step::Theory, 38_514_999, 38_510_000),
+        by_theory(10, Step::Theory, -15, -10),
+        by_theory(10, Step::Theory, -16, -20),
+        by_theory(10, Step::TheoryUp, 101, 110),
+        by_theory(10, Step::TheoryUp, -101, -100),
         WorkedPrice {
             step: Step::Quote,
             bid: Some(100),
             ask: Some(130),
             price: 120,
-            ..nothing
+            ..NOTHING
         },
         WorkedPrice {
             step: Step::Spread,
             reference: Some(145_200),
             spread: Some(-30),
             price: 145_230,
-            ..nothing
+            ..NOTHING
         },
     ];
     (prices, 0)
