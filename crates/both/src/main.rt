@@ -22,7 +22,8 @@ use runs::comparing::{Answers, compare_makes};
 use runs::performing::perform;
 use tape::tapes::{BLANK, Tape};
 
-// A small day: more entries than these find the books full. It stands in `figures` too: the two programs have no crate of their own in common.
+// A small day: more entries than these find the books full. It stands in `figures` too: the two programs have no crate of their
+// own in common.
 const PLACES: usize = 256;
 
 // The line of the first call, after the day line.

@@ -17,7 +17,8 @@ use book::lawful::LawfulDay;
 use book::marks::Values;
 use tape::tapes::{BLANK, Tape};
 
-// A small day: more entries than these find the books full. It stands in `both` too: the two programs have no crate of their own in common.
+// A small day: more entries than these find the books full. It stands in `both` too: the two programs have no crate of their
+// own in common.
 const PLACES: usize = 256;
 
 // The windows are numbered from 1. `board` has the number too, for itself; `book` needs none.
