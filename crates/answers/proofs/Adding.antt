@@ -9,8 +9,8 @@ use Rattle.rows.specs.Steps.{letter}
 use Rattle.answers.specs.Faults.{line_detail, line_number}
 use Rattle.answers.specs.Texts.{Typed, answer_text}
 use Rattle.answers.specs.Written.{Added, Begins, Replied}
-use Rattle.runs.specs.declared.calls.Reply.{Reply}
-use Rattle.runs.specs.declared.calls.Reply.TheVariants.{Done, Listed, Settled}
+use Rattle.calls.specs.declared.call.Reply.{Reply}
+use Rattle.calls.specs.declared.call.Reply.TheVariants.{Done, Listed, Settled}
 use Rattle.answers.specs.declared.faults.LineFault.{LineFault}
 use Rattle.answers.proofs.Neat.{one_line, text_short}
 

@@ -9,8 +9,8 @@ use Rattle.rows.specs.declared.steps.Step.{Step}
 use Rattle.rows.specs.declared.steps.Step.TheVariants.{Auction, Trade, Quote, Average, Theory, TheoryUp, Spread, PreviousSpread, Copy, Previous, Ruling}
 use Rattle.answers.specs.Faults.{line_detail, line_number}
 use Rattle.answers.specs.Texts.{SameAnswer, TextsApart, Typed, answer_fields, detail_fields}
-use Rattle.runs.specs.declared.calls.Reply.{Reply}
-use Rattle.runs.specs.declared.calls.Reply.TheVariants.{Done, Listed, Settled}
+use Rattle.calls.specs.declared.call.Reply.{Reply}
+use Rattle.calls.specs.declared.call.Reply.TheVariants.{Done, Listed, Settled}
 use Rattle.answers.specs.declared.faults.LineFault.{LineFault}
 use Rattle.answers.proofs.Neat.{fields_text, number_small, one_line, text_short, word_length}
 

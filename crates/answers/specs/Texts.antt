@@ -4,8 +4,8 @@ use Rattle.std.specs.Int.{w64}
 use Rattle.std.specs.Fmt.{signed_decimal}
 use Rattle.rows.specs.Steps.{letter}
 use Rattle.lines.specs.Fields.{spaced}
-use Rattle.runs.specs.declared.calls.Reply.{Reply}
-use Rattle.runs.specs.declared.calls.Reply.TheVariants.{Done, Listed, Settled}
+use Rattle.calls.specs.declared.call.Reply.{Reply}
+use Rattle.calls.specs.declared.call.Reply.TheVariants.{Done, Listed, Settled}
 use Rattle.answers.specs.declared.faults.LineFault.{LineFault}
 use Rattle.answers.specs.Faults.{line_detail, line_number}
 

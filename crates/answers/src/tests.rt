@@ -7,7 +7,7 @@ use house::faults::HouseFault;
 use ladders::faults::LadderFault;
 use lines::faults::NotRead;
 use rows::steps::Step;
-use runs::calls::Reply;
+use calls::call::Reply;
 
 fn price(series: i64, price: i64, step: Step, place: u8) -> Result<Reply, LineFault> {
     let settlement = Settlement { price, step, place };

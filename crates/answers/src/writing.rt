@@ -8,7 +8,7 @@ ghost use Rattle.answers.specs.Written.{Added, Begins, Replied};
 use crate::faults::LineFault;
 use house::answers::Settlement;
 use itoa::{Buffer, Integer};
-use runs::calls::Reply;
+use calls::call::Reply;
 
 // A buffer of so many bytes has room for every answer.
 pub const ROOM: usize = 96;

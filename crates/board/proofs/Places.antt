@@ -4,7 +4,7 @@ use Rattle.std.proofs.lemmas.List.{get_or-replicate}
 use Rattle.std.proofs.lemmas.Bool.{and_parts, cond-false, cond_both, leb-true}
 use Rattle.book.specs.Figures.{empty}
 use Rattle.book.specs.Ledgers.{in_range}
-use Rattle.book.specs.declared.marks.Figures.{Figures}
+use Rattle.book.specs.declared.figures.Figures.{Figures}
 use Rattle.board.specs.Cells.{cell, place}
 
 pub range_bounds : (s w : ℕ) → in_range s w ≡ true → (s ≤ 31) × ((1 ≤ w) × (w ≤ 13))

@@ -3,7 +3,7 @@ use Rattle.std.specs.Prelude.{ℕ, ◌+◌, ◌-◌, ◌*◌, cond, List, slice_
 use Rattle.book.specs.Figures.{empty}
 use Rattle.book.specs.Ledgers.{Ledger, in_range}
 use Rattle.book.specs.declared.days.Day.{Day}
-use Rattle.book.specs.declared.marks.Figures.{Figures}
+use Rattle.book.specs.declared.figures.Figures.{Figures}
 
 -- the thirteen windows of series 0 stand first, then those of series 1, and so on
 abbrev pub place : ℕ → ℕ → ℕ

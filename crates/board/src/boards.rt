@@ -11,7 +11,7 @@ use book::days::Day;
 use book::entries::Entry;
 use book::faults::BookFault;
 use book::lawful::LawfulDay;
-use book::marks::Values;
+use book::figures::Values;
 
 #[derive(Drop)]
 pub struct Board {

@@ -1,13 +1,13 @@
 // One flat table with a record for each series and window.
 ghost use Rattle.std.specs.Prelude.{◌≡◌, ℕ, ◌&&◌, if◌then◌else◌, ◌==◌, nat_eq};
-ghost use Rattle.book.specs.Figures.{empty, entered_if, marked_in};
+ghost use Rattle.book.specs.Figures.{empty, entered_if, entered_sound};
 ghost use Rattle.book.specs.Ledgers.{in_range};
 ghost use Rattle.book.specs.Windows.{edges};
 ghost use Rattle.board.specs.Cells.{cell, place};
 
 use book::days::Day;
 use book::entries::{Entry, SERIES};
-use book::marks::{Figures, SoundEntry};
+use book::figures::{Figures, SoundEntry};
 use book::windows::windows;
 
 const WINDOWS: u8 = 13;
@@ -45,21 +45,21 @@ impl Table {
     }
 
     // A sound entry enters one record, in place, if a window with these edges holds its stamp; every other record stays.
-    fn mark_at(&mut self, series: u8, window: u8, e: &SoundEntry, edges: (i64, i64))
-        ensures { (s w : ℕ) → cell self.new.cells s w ≡ (if in_range s w && (nat_eq s series && w == window) then marked_in edges (cell self.old.cells s w) e.now.entry else cell self.old.cells s w) }
+    fn enter_at(&mut self, series: u8, window: u8, e: &SoundEntry, edges: (i64, i64))
+        ensures { (s w : ℕ) → cell self.new.cells s w ≡ (if in_range s w && (nat_eq s series && w == window) then entered_sound edges (cell self.old.cells s w) e.now.entry else cell self.old.cells s w) }
     {
         if let Some(i) = place(series, window) {
-            self.cells[i].mark_in(e, edges);
+            self.cells[i].enter_sound(e, edges);
         }
     }
 
     // A sound entry enters the records of its series, window by window.
-    fn mark_all(&mut self, day: &Day, series: u8, e: &SoundEntry)
-        ensures { (s w : ℕ) → cell self.new.cells s w ≡ (if in_range s w && nat_eq s series then marked_in (edges day.now w) (cell self.old.cells s w) e.now.entry else cell self.old.cells s w) }
+    fn enter_windows(&mut self, day: &Day, series: u8, e: &SoundEntry)
+        ensures { (s w : ℕ) → cell self.new.cells s w ≡ (if in_range s w && nat_eq s series then entered_sound (edges day.now w) (cell self.old.cells s w) e.now.entry else cell self.old.cells s w) }
     {
         let windows = windows(day);
         for window in 1..=WINDOWS {
-            self.mark_at(series, window, e, windows[usize::from(window)]);
+            self.enter_at(series, window, e, windows[usize::from(window)]);
         }
     }
 
@@ -71,7 +71,7 @@ impl Table {
             return;
         };
         if let Ok(series) = u8::try_from(e.series) {
-            self.mark_all(day, series, &sound);
+            self.enter_windows(day, series, &sound);
         }
     }
 }

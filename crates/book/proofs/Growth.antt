@@ -6,21 +6,21 @@ use Rattle.std.proofs.lemmas.Int.{ints}
 use Rattle.std.proofs.lemmas.Bool.{and_parts, and_from, cond_both, leb-true, le-leb}
 use Rattle.book.specs.Bounds.{bounded, sums_within, spread_if, sides_if}
 use Rattle.book.specs.Entries.{kind_lawful, lots_lawful, price_lawful, side_lawful, uncrossed}
-use Rattle.book.specs.Figures.{concerns, empty, entered_if, entered_in, latest, marked, roomy, settled, sound, traded, values, with_auction}
+use Rattle.book.specs.Figures.{concerns, empty, entered_if, entered_in, latest, with_entry, roomy, unstamped, sound, traded, values, with_auction}
 use Rattle.book.specs.declared.entries.Entry.{Entry}
 use Rattle.book.specs.declared.entries.Kind.{Kind}
 use Rattle.book.specs.declared.entries.Kind.TheVariants.{Trade, Auction, Leg, Spread, Quote}
-use Rattle.book.specs.declared.marks.Figures.{Figures}
-use Rattle.book.specs.declared.marks.Last.{Last}
-use Rattle.book.specs.declared.marks.Values.{Values}
+use Rattle.book.specs.declared.figures.Figures.{Figures}
+use Rattle.book.specs.declared.figures.Last.{Last}
+use Rattle.book.specs.declared.figures.Values.{Values}
 use Rattle.book.proofs.Limits.{worth_by_lots}
 use Rattle.book.proofs.Orders.{le_from, le_test}
 
 -- what holds of the old value and of the new one holds of the later
-later_of_both : {V : Type 0} (P : Option V → Bool) (o : Option (Last V)) (t : ℤ) (v : V) → P (settled o) ≡ true → P (Some v) ≡ true → P (settled (latest o t v)) ≡ true
+later_of_both : {V : Type 0} (P : Option V → Bool) (o : Option (Last V)) (t : ℤ) (v : V) → P (unstamped o) ≡ true → P (Some v) ≡ true → P (unstamped (latest o t v)) ≡ true
 later_of_both P None t v h k = k
 later_of_both P (Some o) t v h k =
-    cond_both (le_z o.stamp t) (Some (record { stamp = t; value = v })) (Some o) (λ l. P (settled l) ≡ true) (λ e. k) (λ e. h)
+    cond_both (le_z o.stamp t) (Some (record { stamp = t; value = v })) (Some o) (λ l. P (unstamped l) ≡ true) (λ e. k) (λ e. h)
 
 -- the parts of the bounds
 pub record Parts (n : ℕ) (v : Values) : Type 0 where
@@ -107,15 +107,15 @@ grown_auction n f t p h v = record {
   quote = v.quote;
 }
 
-grown_mark : (n : ℕ) (f : Figures) (k : Kind) (t : ℤ) → kind_lawful k ≡ true → Parts n (values f) → Parts (n + 1) (values (marked k t f))
-grown_mark n f (Trade p l) t h v =
+grown_with_entry : (n : ℕ) (f : Figures) (k : Kind) (t : ℤ) → kind_lawful k ≡ true → Parts n (values f) → Parts (n + 1) (values (with_entry k t f))
+grown_with_entry n f (Trade p l) t h v =
     let both = and_parts (price_lawful p) (lots_lawful l) h in
     grown_trade n f t p l both.0 both.1 v
-grown_mark n f (Auction p l) t h v =
+grown_with_entry n f (Auction p l) t h v =
     let both = and_parts (price_lawful p) (lots_lawful l) h in
     grown_trade n (with_auction t p f) t p l both.0 both.1 (grown_auction n f t p both.0 v)
-grown_mark n f (Leg p l) t h v = later n (values f) v
-grown_mark n f (Spread d) t h v =
+grown_with_entry n f (Leg p l) t h v = later n (values f) v
+grown_with_entry n f (Spread d) t h v =
     let w = later n (values f) v in
     record {
       some = w.some;
@@ -126,7 +126,7 @@ grown_mark n f (Spread d) t h v =
       spread = later_of_both spread_if f.spread t d w.spread h;
       quote = w.quote;
     }
-grown_mark n f (Quote b a) t h v =
+grown_with_entry n f (Quote b a) t h v =
     let w = later n (values f) v in
     let sides = (and_parts (side_lawful b && side_lawful a) (uncrossed b a) h).0 in
     record {
@@ -142,8 +142,8 @@ grown_mark n f (Quote b a) t h v =
 pub bounded_entered : (n s : ℕ) (x : ℤ × ℤ) (f : Figures) (e : Entry) → kind_lawful e.kind ≡ true → bounded n (values f) ≡ true → bounded (n + 1) (values (entered_in s x f e)) ≡ true
 bounded_entered n s x f e h b =
     let p = parts n (values f) b in
-    cond_both (concerns s x e) (marked e.kind e.stamp f) f (λ g. bounded (n + 1) (values g) ≡ true)
-    (λ yes. whole (n + 1) _ (grown_mark n f e.kind e.stamp h p))
+    cond_both (concerns s x e) (with_entry e.kind e.stamp f) f (λ g. bounded (n + 1) (values g) ≡ true)
+    (λ yes. whole (n + 1) _ (grown_with_entry n f e.kind e.stamp h p))
     (λ no. whole (n + 1) (values f) (later n (values f) p))
 
 pub bounded_empty : (n : ℕ) → bounded n (values empty) ≡ true
@@ -162,5 +162,5 @@ roomy_from n f b h =
 -- a sound entry, where there is room, enters the figures that it concerns
 pub enters : (s : ℕ) (x : ℤ × ℤ) (f : Figures) (e : Entry) → sound e ≡ true → roomy f ≡ true → entered_if s x f e ≡ entered_in s x f e
 enters s x f e ok room =
-    ap (λ b. cond (concerns s x e && b) (marked e.kind e.stamp f) f) (and_from (sound e) (roomy f) ok room)
-    ∙ ap (λ b. cond b (marked e.kind e.stamp f) f) (and-true (concerns s x e))
+    ap (λ b. cond (concerns s x e && b) (with_entry e.kind e.stamp f) f) (and_from (sound e) (roomy f) ok room)
+    ∙ ap (λ b. cond b (with_entry e.kind e.stamp f) f) (and-true (concerns s x e))

@@ -5,16 +5,16 @@ use Rattle.std.proofs.lemmas.Bool.{cond-false, cond-true}
 use Rattle.book.specs.Evidence.{Evidence}
 use Rattle.book.specs.Ledgers.{Ledger, after, answer, fresh, grown}
 use Rattle.book.specs.Records.{recorded}
-use Rattle.book.specs.Takings.{after_all, taken}
+use Rattle.book.specs.Takings.{after_all, entries_taken}
 use Rattle.book.specs.declared.days.Day.{Day}
 use Rattle.book.specs.declared.entries.Entry.{Entry}
 use Rattle.book.proofs.Folds.{recorded_push}
 use Rattle.book.proofs.Taking.{taken_or_refused}
 use Rattle.book.proofs.Told.{evidence}
 
--- a book of the entries xs, handed the entries es, means what xs and those taken of es tell
+-- a book of the entries xs, handed the entries es, means what xs and those entries_taken of es tell
 abbrev Recorded : Day → ℕ → List Entry → List Entry → Type 0
-Recorded d k xs es = after_all (recorded d k xs) es ≡ recorded d k (xs ++ taken (recorded d k xs) es)
+Recorded d k xs es = after_all (recorded d k xs) es ≡ recorded d k (xs ++ entries_taken (recorded d k xs) es)
 
 grows : (d : Day) (k : ℕ) (xs es : List Entry) (e : Entry) → is_ok (answer (recorded d k xs) e) ≡ true → after (recorded d k xs) e ≡ grown (recorded d k xs) e → Recorded d k (xs ++ (e ∷ [])) es → Recorded d k xs (e ∷ es)
 grows d k xs es e ok is whole =
@@ -22,17 +22,17 @@ grows d k xs es e ok is whole =
     let more : after m e ≡ recorded d k (xs ++ (e ∷ [])) = is ∙ sym (recorded_push d k xs e) in
     ap (λ n. after_all n es) more
     ∙ whole
-    ∙ ap (recorded d k) (append_assoc xs (e ∷ []) (taken (recorded d k (xs ++ (e ∷ []))) es))
-    ∙ ap (λ n. recorded d k (xs ++ (e ∷ taken n es))) (sym more)
-    ∙ ap (λ ys. recorded d k (xs ++ ys)) (sym (cond-true (is_ok (answer m e)) (e ∷ taken (after m e) es) (taken (after m e) es) ok))
+    ∙ ap (recorded d k) (append_assoc xs (e ∷ []) (entries_taken (recorded d k (xs ++ (e ∷ []))) es))
+    ∙ ap (λ n. recorded d k (xs ++ (e ∷ entries_taken n es))) (sym more)
+    ∙ ap (λ ys. recorded d k (xs ++ ys)) (sym (cond-true (is_ok (answer m e)) (e ∷ entries_taken (after m e) es) (entries_taken (after m e) es) ok))
 
 stays : (d : Day) (k : ℕ) (xs es : List Entry) (e : Entry) → is_ok (answer (recorded d k xs) e) ≡ false → after (recorded d k xs) e ≡ recorded d k xs → Recorded d k xs es → Recorded d k xs (e ∷ es)
 stays d k xs es e ok is whole =
     let m = recorded d k xs in
     ap (λ n. after_all n es) is
     ∙ whole
-    ∙ ap (λ n. recorded d k (xs ++ taken n es)) (sym is)
-    ∙ ap (λ ys. recorded d k (xs ++ ys)) (sym (cond-false (is_ok (answer m e)) (e ∷ taken (after m e) es) (taken (after m e) es) ok))
+    ∙ ap (λ n. recorded d k (xs ++ entries_taken n es)) (sym is)
+    ∙ ap (λ ys. recorded d k (xs ++ ys)) (sym (cond-false (is_ok (answer m e)) (e ∷ entries_taken (after m e) es) (entries_taken (after m e) es) ok))
 
 recorded_all : (d : Day) (k : ℕ) (xs es : List Entry) → Recorded d k xs es
 recorded_all d k xs [] = ap (recorded d k) (sym (append-nil xs))
@@ -42,7 +42,7 @@ recorded_all d k xs (e ∷ es) =
     (λ p. stays d k xs es e p.0 p.1 (recorded_all d k xs es))
     (taken_or_refused (recorded d k xs) e)
 
-pub told : (m then : Ledger) (es : List Entry) → then ≡ after_all m es → (d : Day) (k : ℕ) → m ≡ fresh d k → Evidence then (taken (fresh d k) es)
-told m then es is d k new =
-    let whole : recorded d k (taken (fresh d k) es) ≡ then = sym (is ∙ ap (λ n. after_all n es) new ∙ recorded_all d k [] es) in
-    subst (λ (n : Ledger). Evidence n (taken (fresh d k) es)) whole (evidence d k (taken (fresh d k) es))
+pub evidence_of_taken : (m then : Ledger) (es : List Entry) → then ≡ after_all m es → (d : Day) (k : ℕ) → m ≡ fresh d k → Evidence then (entries_taken (fresh d k) es)
+evidence_of_taken m then es is d k new =
+    let whole : recorded d k (entries_taken (fresh d k) es) ≡ then = sym (is ∙ ap (λ n. after_all n es) new ∙ recorded_all d k [] es) in
+    subst (λ (n : Ledger). Evidence n (entries_taken (fresh d k) es)) whole (evidence d k (entries_taken (fresh d k) es))

@@ -4,7 +4,7 @@ use Rattle.std.proofs.lemmas.Int.{ints}
 use Rattle.std.proofs.lemmas.Bool.{and_parts, leb-true, true≢false}
 use Rattle.book.specs.Entries.{price_lawful, lots_lawful}
 use Rattle.book.specs.Figures.{roomy}
-use Rattle.book.specs.declared.marks.Figures.{Figures}
+use Rattle.book.specs.declared.figures.Figures.{Figures}
 
 pub price_bound : (v : ℤ) → price_lawful v ≡ true → nat_abs v ≤ 1000000000
 price_bound v h = grind (arith, ints)

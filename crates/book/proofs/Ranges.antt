@@ -6,12 +6,12 @@ use Rattle.std.proofs.lemmas.Int.{ints}
 use Rattle.std.proofs.lemmas.Bool.{and_parts, and_from, and_left, and_right, and_cases, cond-false, leb-true, leb-false, ne_eqb}
 use Rattle.book.specs.Days.{is_lawful}
 use Rattle.book.specs.Entries.{allowed, kind_lawful}
-use Rattle.book.specs.Figures.{concerns, is_series, marked, stamp_small}
+use Rattle.book.specs.Figures.{concerns, is_series, with_entry, stamp_small}
 use Rattle.book.specs.Ledgers.{entered, in_range}
 use Rattle.book.specs.Windows.{edges, holds, nothing, windows}
 use Rattle.book.specs.declared.days.Day.{Day}
 use Rattle.book.specs.declared.entries.Entry.{Entry}
-use Rattle.book.specs.declared.marks.Figures.{Figures}
+use Rattle.book.specs.declared.figures.Figures.{Figures}
 use Rattle.book.proofs.Orders.{le_from, le_test}
 
 pub allowed_kind : (d : Day) (e : Entry) → allowed d e ≡ true → kind_lawful e.kind ≡ true
@@ -69,7 +69,7 @@ no_window d w h =
 -- outside series 0 to 31 and windows 1 to 13 figures stay as they are
 pub outside_stays : (d : Day) (s w : ℕ) (f : Figures) (e : Entry) → allowed d e ≡ true → in_range s w ≡ false → entered d s w f e ≡ f
 outside_stays d s w f e h r =
-    cond-false (concerns s (edges d w) e) (marked e.kind e.stamp f) f
+    cond-false (concerns s (edges d w) e) (with_entry e.kind e.stamp f) f
     (⊎_elim
     (λ past. and_left (is_series s e.series) (holds (edges d w) e.stamp) (other_series s e.series (allowed_place d e h).0 (leb-false s 31 past)))
     (λ none. and_right (is_series s e.series) (holds (edges d w) e.stamp) (ap (λ x. holds x e.stamp) (no_window d w none) ∙ nothing_holds e.stamp))

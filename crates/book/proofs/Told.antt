@@ -8,7 +8,7 @@ use Rattle.std.proofs.lemmas.List.{append_assoc, append-nil}
 use Rattle.std.proofs.lemmas.Int.{ints}
 use Rattle.std.proofs.lemmas.Bool.{and_cases, and_left, cases_Bool, cond_both, cond-false, cond-true, both_ways, true≢false}
 use Rattle.book.specs.Evidence.{StandsLast, Evidence, LastOf, auction_price, lots_of, no_leg, own_entries, pick, quote_sides, spread_value, total, trade_price, trades, worth_of}
-use Rattle.book.specs.Figures.{concerns, empty, entered_in, is_series, latest, marked}
+use Rattle.book.specs.Figures.{concerns, empty, entered_in, is_series, latest, with_entry}
 use Rattle.book.specs.Ledgers.{entered}
 use Rattle.book.specs.Records.{figures_of, recorded}
 use Rattle.book.specs.Windows.{edges, holds}
@@ -16,8 +16,8 @@ use Rattle.book.specs.declared.days.Day.{Day}
 use Rattle.book.specs.declared.entries.Entry.{Entry}
 use Rattle.book.specs.declared.entries.Kind.{Kind}
 use Rattle.book.specs.declared.entries.Kind.TheVariants.{Trade, Auction, Leg, Spread, Quote}
-use Rattle.book.specs.declared.marks.Figures.{Figures}
-use Rattle.book.specs.declared.marks.Last.{Last}
+use Rattle.book.specs.declared.figures.Figures.{Figures}
+use Rattle.book.specs.declared.figures.Last.{Last}
 use Rattle.book.proofs.Orders.{le_from, over_from}
 
 -- what holds of no entries and stays as one more is entered holds of all
@@ -80,12 +80,12 @@ last_push picked xs e (Some v) (Some o) is r =
 -- ---- what each kind does to each figure
 
 record Fields (b : Bool) (k : Kind) (t : ℤ) (f : Figures) : Type 0 where
-  trade : (cond b (marked k t f) f).trade ≡ next (cond b (trade_price k) None) t f.trade
-  auction : (cond b (marked k t f) f).auction ≡ next (cond b (auction_price k) None) t f.auction
-  spread : (cond b (marked k t f) f).spread ≡ next (cond b (spread_value k) None) t f.spread
-  quote : (cond b (marked k t f) f).quote ≡ next (cond b (quote_sides k) None) t f.quote
-  lots : (cond b (marked k t f) f).lots ≡ cond (is_some (cond b (trade_price k) None)) (f.lots +ℤ lots_of k) f.lots
-  money : (cond b (marked k t f) f).money ≡ cond (is_some (cond b (trade_price k) None)) (f.money +ℤ worth_of k) f.money
+  trade : (cond b (with_entry k t f) f).trade ≡ next (cond b (trade_price k) None) t f.trade
+  auction : (cond b (with_entry k t f) f).auction ≡ next (cond b (auction_price k) None) t f.auction
+  spread : (cond b (with_entry k t f) f).spread ≡ next (cond b (spread_value k) None) t f.spread
+  quote : (cond b (with_entry k t f) f).quote ≡ next (cond b (quote_sides k) None) t f.quote
+  lots : (cond b (with_entry k t f) f).lots ≡ cond (is_some (cond b (trade_price k) None)) (f.lots +ℤ lots_of k) f.lots
+  money : (cond b (with_entry k t f) f).money ≡ cond (is_some (cond b (trade_price k) None)) (f.money +ℤ worth_of k) f.money
 
 fields : (b : Bool) (k : Kind) (t : ℤ) (f : Figures) → Fields b k t f
 fields false k t f = record { trade = refl; auction = refl; spread = refl; quote = refl; lots = refl; money = refl }
@@ -122,7 +122,7 @@ sum_push g p xs e a is =
 
 -- ---- figures depend on the entries for their series, legs aside
 
-leg_enters_nothing : (k : Kind) (t : ℤ) (f : Figures) → no_leg k ≡ false → marked k t f ≡ f
+leg_enters_nothing : (k : Kind) (t : ℤ) (f : Figures) → no_leg k ≡ false → with_entry k t f ≡ f
 leg_enters_nothing (Trade p n) t f h = absurd (true≢false h)
 leg_enters_nothing (Auction p n) t f h = absurd (true≢false h)
 leg_enters_nothing (Leg p n) t f h = refl
@@ -132,8 +132,8 @@ leg_enters_nothing (Quote b a) t f h = absurd (true≢false h)
 others_enter_nothing : (s : ℕ) (x : ℤ × ℤ) (f : Figures) (e : Entry) → (is_series s e.series && no_leg e.kind) ≡ false → entered_in s x f e ≡ f
 others_enter_nothing s x f e h =
     ⊎_elim
-    (λ other. cond-false (concerns s x e) (marked e.kind e.stamp f) f (and_left (is_series s e.series) (holds x e.stamp) other))
-    (λ leg. cond_both (concerns s x e) (marked e.kind e.stamp f) f (λ g. g ≡ f) (λ b. leg_enters_nothing e.kind e.stamp f leg) (λ b. refl))
+    (λ other. cond-false (concerns s x e) (with_entry e.kind e.stamp f) f (and_left (is_series s e.series) (holds x e.stamp) other))
+    (λ leg. cond_both (concerns s x e) (with_entry e.kind e.stamp f) f (λ g. g ≡ f) (λ b. leg_enters_nothing e.kind e.stamp f leg) (λ b. refl))
     (and_cases (is_series s e.series) (no_leg e.kind) h)
 
 own_fold : (s : ℕ) (x : ℤ × ℤ) (f : Figures) (es : List Entry) → fold (entered_in s x) f (own_entries s es) ≡ fold (entered_in s x) f es

@@ -1,8 +1,8 @@
 -- How large figures can grow.
 use Rattle.std.specs.Prelude.{ℕ, ◌*◌, Bool, true, ◌&&◌, ℤ, pos, Some, None, Option, int_le, nat_le, unsigned_abs}
 use Rattle.book.specs.Entries.{side_lawful, spread_lawful}
-use Rattle.book.specs.declared.marks.Sides.{Sides}
-use Rattle.book.specs.declared.marks.Values.{Values}
+use Rattle.book.specs.declared.figures.Sides.{Sides}
+use Rattle.book.specs.declared.figures.Values.{Values}
 
 abbrev pub spread_if : Option ℤ → Bool
 spread_if None = true

@@ -5,10 +5,10 @@ use Rattle.book.specs.Windows.{holds}
 use Rattle.book.specs.declared.entries.Entry.{Entry}
 use Rattle.book.specs.declared.entries.Kind.{Kind}
 use Rattle.book.specs.declared.entries.Kind.TheVariants.{Trade, Auction, Leg, Spread, Quote}
-use Rattle.book.specs.declared.marks.Last.{Last}
-use Rattle.book.specs.declared.marks.Sides.{Sides}
-use Rattle.book.specs.declared.marks.Figures.{Figures}
-use Rattle.book.specs.declared.marks.Values.{Values}
+use Rattle.book.specs.declared.figures.Last.{Last}
+use Rattle.book.specs.declared.figures.Sides.{Sides}
+use Rattle.book.specs.declared.figures.Figures.{Figures}
+use Rattle.book.specs.declared.figures.Values.{Values}
 
 -- nothing is last, and the sums are 0
 abbrev pub empty : Figures
@@ -61,12 +61,12 @@ with_quote t q f = record {
 }
 
 -- an auction enters what a trade enters, and the last auction; a leg enters nothing
-abbrev pub marked : Kind → ℤ → Figures → Figures
-marked (Trade p n) t f = traded t p n f
-marked (Auction p n) t f = traded t p n (with_auction t p f)
-marked (Leg p n) t f = f
-marked (Spread v) t f = with_spread t v f
-marked (Quote b a) t f = with_quote t (record { bid = b; ask = a }) f
+abbrev pub with_entry : Kind → ℤ → Figures → Figures
+with_entry (Trade p n) t f = traded t p n f
+with_entry (Auction p n) t f = traded t p n (with_auction t p f)
+with_entry (Leg p n) t f = f
+with_entry (Spread v) t f = with_spread t v f
+with_entry (Quote b a) t f = with_quote t (record { bid = b; ask = a }) f
 
 -- whether a number names a series
 abbrev pub is_series : ℕ → ℤ → Bool
@@ -78,20 +78,20 @@ abbrev pub concerns : ℕ → ℤ × ℤ → Entry → Bool
 concerns s x e = is_series s e.series && holds x e.stamp
 
 abbrev pub entered_in : ℕ → ℤ × ℤ → Figures → Entry → Figures
-entered_in s x f e = cond (concerns s x e) (marked e.kind e.stamp f) f
+entered_in s x f e = cond (concerns s x e) (with_entry e.kind e.stamp f) f
 
 -- ---- what is read: the figures without the stamps
 
-abbrev pub settled : {V : Type 0} → Option (Last V) → Option V
-settled None = None
-settled (Some o) = Some o.value
+abbrev pub unstamped : {V : Type 0} → Option (Last V) → Option V
+unstamped None = None
+unstamped (Some o) = Some o.value
 
 abbrev pub values : Figures → Values
 values f = record {
-  trade = settled f.trade;
-  auction = settled f.auction;
-  spread = settled f.spread;
-  quote = settled f.quote;
+  trade = unstamped f.trade;
+  auction = unstamped f.auction;
+  spread = unstamped f.spread;
+  quote = unstamped f.quote;
   lots = f.lots;
   money = f.money;
 }
@@ -108,9 +108,9 @@ abbrev pub sound : Entry → Bool
 sound e = stamp_small e.stamp && kind_lawful e.kind
 
 -- a sound entry of the series enters where the window holds its stamp and the sums have room; else the figures stay
-abbrev pub marked_in : ℤ × ℤ → Figures → Entry → Figures
-marked_in x f e = cond (holds x e.stamp && roomy f) (marked e.kind e.stamp f) f
+abbrev pub entered_sound : ℤ × ℤ → Figures → Entry → Figures
+entered_sound x f e = cond (holds x e.stamp && roomy f) (with_entry e.kind e.stamp f) f
 
 -- the same as `entered_in`, where the entry is sound and the sums have room; else the figures stay
 abbrev pub entered_if : ℕ → ℤ × ℤ → Figures → Entry → Figures
-entered_if s x f e = cond (concerns s x e && (sound e && roomy f)) (marked e.kind e.stamp f) f
+entered_if s x f e = cond (concerns s x e && (sound e && roomy f)) (with_entry e.kind e.stamp f) f

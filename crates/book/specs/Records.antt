@@ -4,7 +4,7 @@ use Rattle.book.specs.Figures.{empty}
 use Rattle.book.specs.Ledgers.{Ledger, entered}
 use Rattle.book.specs.declared.days.Day.{Day}
 use Rattle.book.specs.declared.entries.Entry.{Entry}
-use Rattle.book.specs.declared.marks.Figures.{Figures}
+use Rattle.book.specs.declared.figures.Figures.{Figures}
 
 -- whether a test holds of every element
 abbrev pub every : {X : Type 0} → (X → Bool) → List X → Bool

@@ -7,6 +7,6 @@ abbrev pub after_all : Ledger → List Entry → Ledger
 after_all m es = fold after m es
 
 -- the entries that were not refused, in their order
-abbrev pub taken : Ledger → List Entry → List Entry
-taken m [] = []
-taken m (e ∷ es) = cond (is_ok (answer m e)) (e ∷ taken (after m e) es) (taken (after m e) es)
+abbrev pub entries_taken : Ledger → List Entry → List Entry
+entries_taken m [] = []
+entries_taken m (e ∷ es) = cond (is_ok (answer m e)) (e ∷ entries_taken (after m e) es) (entries_taken (after m e) es)

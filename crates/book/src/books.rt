@@ -8,7 +8,7 @@ use crate::days::Day;
 use crate::entries::{Entry, is_allowed};
 use crate::faults::BookFault;
 use crate::lawful::LawfulDay;
-use crate::marks::Values;
+use crate::figures::Values;
 
 // No book holds more entries.
 pub const MOST: usize = 30_000;

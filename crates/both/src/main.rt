@@ -17,9 +17,9 @@ use ladders::bands::Band;
 use ladders::faults::LadderFault;
 use ladders::sets::{EvenSet, LadderSet, SteppedSet};
 use rows::places::Edition;
-use runs::calls::{Call, Reply};
+use calls::call::{Call, Reply};
 use runs::comparing::{Answers, compare_makes};
-use runs::performing::perform;
+use calls::performing::perform;
 use tape::tapes::{BLANK, Tape};
 
 // A small day: more entries than these find the books full. It stands in `figures` too: the two programs have no crate of their

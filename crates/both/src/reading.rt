@@ -6,7 +6,7 @@ use book::entries::{Entry, Kind};
 use house::phases::Bell;
 use house::terms::Listing;
 use rows::places::Marks;
-use runs::calls::Call;
+use calls::call::Call;
 use std::alloc::Global;
 
 // The day record and the ticks of its ladders, as they are read.

@@ -6,12 +6,12 @@ use Rattle.ladders.specs.declared.sets.SetOf.{SetOf}
 use Rattle.ladders.specs.declared.ticks.Tick.{Tick}
 use Rattle.house.specs.declared.faults.HouseFault.{HouseFault}
 use Rattle.house.specs.declared.houses.House.{House}
-use Rattle.runs.specs.Runs.{next, reply, world}
-use Rattle.runs.specs.declared.calls.Call.{Call}
-use Rattle.runs.specs.declared.calls.Reply.{Reply}
-use Rattle.runs.proofs.Refusals.{refused_stays}
-use Rattle.lines.specs.declared.calls.LineCall.{LineCall}
-use Rattle.lines.specs.declared.calls.LineCall.TheVariants as lines
+use Rattle.calls.specs.Worlds.{next, reply, world}
+use Rattle.calls.specs.declared.call.Call.{Call}
+use Rattle.calls.specs.declared.call.Reply.{Reply}
+use Rattle.calls.proofs.Refusals.{refused_stays}
+use Rattle.lines.specs.declared.line_calls.LineCall.{LineCall}
+use Rattle.lines.specs.declared.line_calls.LineCall.TheVariants as lines
 use Rattle.desk.specs.Desks.{Begun, Standing, begun_by, by_house, call_after, call_answer, day_answer, day_begun, desk_after, desk_answer, house_after, lawful_on, waiting, world_of}
 
 -- a desk with this house

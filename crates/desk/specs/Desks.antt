@@ -15,12 +15,12 @@ use Rattle.house.specs.Calls.{State, new_state}
 use Rattle.house.specs.Houses.{state}
 use Rattle.house.specs.declared.faults.HouseFault.{HouseFault}
 use Rattle.house.specs.declared.houses.House.{House}
-use Rattle.runs.specs.Runs.{World, next, reply}
-use Rattle.runs.specs.declared.calls.Call.{Call}
-use Rattle.runs.specs.declared.calls.Reply.{Reply}
-use Rattle.runs.specs.declared.calls.Reply.TheVariants.{Done}
-use Rattle.lines.specs.declared.calls.LineCall.{LineCall}
-use Rattle.lines.specs.declared.calls.LineCall.TheVariants as lines
+use Rattle.calls.specs.Worlds.{World, next, reply}
+use Rattle.calls.specs.declared.call.Call.{Call}
+use Rattle.calls.specs.declared.call.Reply.{Reply}
+use Rattle.calls.specs.declared.call.Reply.TheVariants.{Done}
+use Rattle.lines.specs.declared.line_calls.LineCall.{LineCall}
+use Rattle.lines.specs.declared.line_calls.LineCall.TheVariants as lines
 use Rattle.lines.specs.declared.faults.NotRead.{NotRead}
 use Rattle.answers.specs.declared.faults.LineFault.{LineFault}
 use Rattle.answers.specs.declared.faults.LineFault.TheVariants as faults

@@ -1,8 +1,8 @@
 -- What a desk makes of a line and of the buffer for the answer.
 use Rattle.std.specs.Prelude.{◌≡◌, ℕ, ◌<◌, ◌≤◌, List, length, Err, Result}
-use Rattle.runs.specs.declared.calls.Reply.{Reply}
+use Rattle.calls.specs.declared.call.Reply.{Reply}
 use Rattle.lines.specs.Spelled.{Parsed}
-use Rattle.lines.specs.declared.calls.LineCall.{LineCall}
+use Rattle.lines.specs.declared.line_calls.LineCall.{LineCall}
 use Rattle.lines.specs.declared.faults.NotRead.{NotRead}
 use Rattle.answers.specs.Texts.{answer_text}
 use Rattle.answers.specs.Written.{Replied}

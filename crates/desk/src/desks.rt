@@ -14,10 +14,10 @@ use book::days::Day;
 use book::lawful::LawfulDay;
 use house::houses::House;
 use ladders::sets::EvenSet;
-use lines::calls::LineCall;
+use lines::line_calls::LineCall;
 use lines::parsing::parse;
-use runs::calls::{Call, Reply};
-use runs::performing::perform;
+use calls::call::{Call, Reply};
+use calls::performing::perform;
 
 // No house stands before a day line. The desk has no book: one is lent with each line, and the day line begins it anew.
 #[derive(Drop)]

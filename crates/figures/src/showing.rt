@@ -1,5 +1,5 @@
 // Figures as they are printed.
-use book::marks::{Sides, Values};
+use book::figures::{Sides, Values};
 use std::fmt;
 
 // A value, or a minus where there is none.

@@ -7,12 +7,12 @@ use Rattle.rows.specs.Codes.{at}
 use Rattle.rows.specs.declared.places.Edition.{Edition}
 use Rattle.rows.specs.declared.places.Place.{Place}
 use Rattle.rows.specs.declared.steps.Step as steps
-use Rattle.house.specs.Answers.{Answer, answered, by_row, first_found, or_later, or_refused, origin, origin_of, price_of, references, row_of, ruled_first, settled, settled_at, some_refers, station}
+use Rattle.house.specs.Answers.{Answer, answered, by_row, first_found, or_later, or_refused, origin, origin_of, price_of, references, row_of, ruled_first, settled, answer_at, some_refers, station}
 use Rattle.house.specs.Calls.{State, demand}
 use Rattle.house.specs.Found.{Station, found}
 use Rattle.house.specs.Meaning.{Explained, Refused, Settles, is_first, is_refused, reference_answer}
 use Rattle.house.specs.declared.answers.Settlement.{Settlement}
-use Rattle.house.specs.Questions.{as_told, is_open, settle_answer}
+use Rattle.house.specs.Questions.{or_no_price, is_open, settle_answer}
 use Rattle.house.specs.Rolls.{is_listed}
 use Rattle.house.specs.declared.faults.HouseFault.{HouseFault}
 use Rattle.house.specs.declared.faults.HouseFault.TheVariants.{NoPrice, NoSuchSeries, WrongPhase}
@@ -138,7 +138,7 @@ module _ (P : ℕ → ℤ → Bool) (ed : Edition) where
 -- ---- what the house tells
 
 -- what is told of a series that was asked for in time is its answer
-told_of : (b c : Bool) (a : Answer) (r : Result Settlement HouseFault) → r ≡ demand b WrongPhase (demand c NoSuchSeries (as_told a)) → ((x : Settlement) → r ≡ Ok x → a ≡ Ok x) × ((o : ℕ) → r ≡ Err (NoPrice o) → a ≡ Err o)
+told_of : (b c : Bool) (a : Answer) (r : Result Settlement HouseFault) → r ≡ demand b WrongPhase (demand c NoSuchSeries (or_no_price a)) → ((x : Settlement) → r ≡ Ok x → a ≡ Ok x) × ((o : ℕ) → r ≡ Err (NoPrice o) → a ≡ Err o)
 told_of true true (Ok y) r is = ((λ x so. grind arith), (λ o so. absurd (grind arith)))
 told_of true true (Err p) r is = ((λ x so. absurd (grind arith)), (λ o so. grind arith))
 told_of true false a r is = ((λ x so. absurd (grind arith)), (λ o so. absurd (grind arith)))
@@ -148,7 +148,7 @@ pub answer_explained : (P : ℕ → ℤ → Bool) (ed : Edition) (s : State) (m 
 answer_explained P ed s m n r is =
     let k = nat_abs n in
     let means = explains P ed (station s m k) (map (station s m) (references s.roll.series k)) in
-    let told = told_of (is_open s.phase ed) (is_listed s.roll.count n) (settled_at P ed s m k) r is in
+    let told = told_of (is_open s.phase ed) (is_listed s.roll.count n) (answer_at P ed s m k) r is in
     record {
       settled = λ x so. subst (Settles P ed (station s m k) (map (station s m) (references s.roll.series k))) (told.0 x so) means;
       refused = λ o so. subst (Settles P ed (station s m k) (map (station s m) (references s.roll.series k))) (told.1 o so) means;

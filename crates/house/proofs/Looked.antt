@@ -5,8 +5,8 @@ use Rattle.std.proofs.lemmas.Int.{ints}
 use Rattle.std.proofs.lemmas.Bool.{and_parts, cond_both, cond-false, cond-true}
 use Rattle.book.specs.Bounds.{bounded, spread_if}
 use Rattle.book.specs.Entries.{price_lawful, side_lawful, spread_lawful}
-use Rattle.book.specs.declared.marks.Sides.{Sides}
-use Rattle.book.specs.declared.marks.Values.{Values}
+use Rattle.book.specs.declared.figures.Sides.{Sides}
+use Rattle.book.specs.declared.figures.Values.{Values}
 use Rattle.book.proofs.Growth.{parts}
 use Rattle.book.proofs.Limits.{price_bound}
 use Rattle.ladders.specs.Fractions.{ceiling, floor, inside}

@@ -4,11 +4,11 @@ use Rattle.std.specs.List.{AllByRecursion}
 use Rattle.std.proofs.lemmas.Bool.{cond-true}
 use Rattle.book.specs.Ledgers.{Ledger}
 use Rattle.rows.specs.declared.places.Edition.{Edition}
-use Rattle.house.specs.Answers.{behind, references, settled, settled_at, station}
+use Rattle.house.specs.Answers.{behind, references, path_answer, answer_at, station}
 use Rattle.house.specs.ByPath.{ByPath, MayAsk, SamePath, SameStation}
 use Rattle.house.specs.Calls.{State, demand}
 use Rattle.house.specs.Found.{Station}
-use Rattle.house.specs.Questions.{as_told, is_open, settle_answer}
+use Rattle.house.specs.Questions.{or_no_price, is_open, settle_answer}
 use Rattle.house.specs.Rolls.{is_listed}
 use Rattle.house.specs.declared.answers.Settlement.{Settlement}
 use Rattle.house.specs.declared.faults.HouseFault.{HouseFault}
@@ -35,16 +35,16 @@ module _ (s t : State) (m k : Ledger) where
       ap (λ rs. r ∷ rs)
       (same_behind j (s.roll.series r).terms.reference h.1 ∙ ap (λ (x : Series). behind j t.roll.series x.terms.reference) h.0.series)
 
-  same_settled : (P : ℕ → ℤ → Bool) (ed : Edition) (n : ℕ) → SamePath n s m t k → settled_at P ed s m n ≡ settled_at P ed t k n
+  same_settled : (P : ℕ → ℤ → Bool) (ed : Edition) (n : ℕ) → SamePath n s m t k → answer_at P ed s m n ≡ answer_at P ed t k n
   same_settled P ed n h =
       let rest = same_behind n (s.roll.series n).terms.reference h.1 ∙ ap (λ (x : Series). behind n t.roll.series x.terms.reference) h.0.series in
       let stations = equal_along (references s.roll.series n) h.1 ∙ ap (map (station t k)) rest in
-      λ i. settled P ed (equal_stations (station s m n) (station t k n) h.0 i) (stations i)
+      λ i. path_answer P ed (equal_stations (station s m n) (station t k n) h.0 i) (stations i)
 
 -- a question in time is answered
-pub in_time : (P : ℕ → ℤ → Bool) (ed : Edition) (s : State) (m : Ledger) (n : ℤ) → MayAsk ed n s → settle_answer P ed n s m ≡ as_told (settled_at P ed s m (nat_abs n))
+pub in_time : (P : ℕ → ℤ → Bool) (ed : Edition) (s : State) (m : Ledger) (n : ℤ) → MayAsk ed n s → settle_answer P ed n s m ≡ or_no_price (answer_at P ed s m (nat_abs n))
 in_time P ed s m n may =
-    let answer = as_told (settled_at P ed s m (nat_abs n)) in
+    let answer = or_no_price (answer_at P ed s m (nat_abs n)) in
     cond-true (is_open s.phase ed) (demand (is_listed s.roll.count n) NoSuchSeries answer) (Err WrongPhase) may.opened
     ∙ cond-true (is_listed s.roll.count n) answer (Err NoSuchSeries) may.listed
 
@@ -52,5 +52,5 @@ pub answered_by_path : (P : ℕ → ℤ → Bool) (ed : Edition) (s : State) (m 
 answered_by_path P ed s m n r is t k here there same =
     is
     ∙ in_time P ed s m n here
-    ∙ ap as_told (same_settled s t m k P ed (nat_abs n) same)
+    ∙ ap or_no_price (same_settled s t m k P ed (nat_abs n) same)
     ∙ sym (in_time P ed t k n there)

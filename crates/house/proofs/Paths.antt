@@ -7,7 +7,7 @@ use Rattle.book.specs.Entries.{side_lawful}
 use Rattle.book.specs.Ledgers.{Ledger}
 use Rattle.rows.specs.declared.families.Family.{Family}
 use Rattle.rows.specs.declared.places.Edition.{Edition}
-use Rattle.house.specs.Answers.{Answer, answered, behind, references, settled, settled_at, station}
+use Rattle.house.specs.Answers.{Answer, answered, behind, references, path_answer, answer_at, station}
 use Rattle.house.specs.Calls.{State}
 use Rattle.house.specs.Series.{integer_if, lawful_ruling, lawful_series}
 use Rattle.house.specs.Terms.{lawful_reference, lawful_spread, lawful_terms, may_refer}
@@ -60,6 +60,6 @@ of_reference answer None = None
 of_reference answer (Some r) = Some (answer r)
 
 module _ (P : ℕ → ℤ → Bool) (ed : Edition) (s : State) (m : Ledger) (lawful : (n : ℕ) → lawful_series n (s.roll.series n) ≡ true) where
-  pub settled_with : (n : ℕ) (o : Option ℕ) → (s.roll.series n).terms.reference ≡ o → settled_at P ed s m n ≡ answered P ed (station s m n) (of_reference (settled_at P ed s m) o)
-  settled_with n None is = ap (λ rs. settled P ed (station s m n) (map (station s m) rs)) (no_reference s.roll.series lawful n is)
-  settled_with n (Some r) is = ap (λ rs. settled P ed (station s m n) (map (station s m) rs)) (next_reference s.roll.series lawful n r is)
+  pub settled_with : (n : ℕ) (o : Option ℕ) → (s.roll.series n).terms.reference ≡ o → answer_at P ed s m n ≡ answered P ed (station s m n) (of_reference (answer_at P ed s m) o)
+  settled_with n None is = ap (λ rs. path_answer P ed (station s m n) (map (station s m) rs)) (no_reference s.roll.series lawful n is)
+  settled_with n (Some r) is = ap (λ rs. path_answer P ed (station s m n) (map (station s m) rs)) (next_reference s.roll.series lawful n r is)

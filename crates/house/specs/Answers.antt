@@ -20,7 +20,7 @@ Answer = Result Settlement ℕ
 
 -- ---- one series, with the answer for its reference
 
--- the row by which a series is settled in an edition
+-- the row by which a series is path_answer in an edition
 abbrev pub row_of : Series → Edition → List Place
 row_of s ed = row s.terms.family (chosen s.terms.family s.terms.marks ed)
 
@@ -87,9 +87,9 @@ answered lawful ed x reference = ruled_first x.series.ruling (by_row lawful ed x
 -- ---- along the path
 
 -- the answer for a series, with the stations behind it: its reference, that one's reference, and so on
-abbrev pub settled : (ℕ → ℤ → Bool) → Edition → Station → List Station → Answer
-settled lawful ed x [] = answered lawful ed x None
-settled lawful ed x (y ∷ ys) = answered lawful ed x (Some (settled lawful ed y ys))
+abbrev pub path_answer : (ℕ → ℤ → Bool) → Edition → Station → List Station → Answer
+path_answer lawful ed x [] = answered lawful ed x None
+path_answer lawful ed x (y ∷ ys) = answered lawful ed x (Some (path_answer lawful ed y ys))
 
 -- the references behind the series numbered n; each is earlier, so that n steps reach the last
 abbrev pub behind : ℕ → (ℕ → Series) → Option ℕ → List ℕ
@@ -111,5 +111,5 @@ station_of n s m = record { number = n; series = s; figures = λ w. values (m.fi
 abbrev pub station : State → Ledger → ℕ → Station
 station s m n = station_of n (s.roll.series n) m
 
-abbrev pub settled_at : (ℕ → ℤ → Bool) → Edition → State → Ledger → ℕ → Answer
-settled_at lawful ed s m n = settled lawful ed (station s m n) (map (station s m) (references s.roll.series n))
+abbrev pub answer_at : (ℕ → ℤ → Bool) → Edition → State → Ledger → ℕ → Answer
+answer_at lawful ed s m n = path_answer lawful ed (station s m n) (map (station s m) (references s.roll.series n))

@@ -46,9 +46,9 @@ moved (Ok a) taken before = taken a
 moved (Err fault) taken before = before
 
 -- the answer of a call that found something
-abbrev pub told : {A C : Type 0} → C → Result A HouseFault → Result C HouseFault
-told c (Ok a) = Ok c
-told c (Err fault) = Err fault
+abbrev pub ok_with : {A C : Type 0} → C → Result A HouseFault → Result C HouseFault
+ok_with c (Ok a) = Ok c
+ok_with c (Err fault) = Err fault
 
 -- ---- bells
 
@@ -62,7 +62,7 @@ rung phases.Closed bells.Open = Err WrongPhase
 rung phases.Closed bells.Close = Err WrongPhase
 
 abbrev pub bell_answer : Bell → State → Result Unit HouseFault
-bell_answer b s = told tt (rung s.phase b)
+bell_answer b s = ok_with tt (rung s.phase b)
 
 abbrev pub bell_after : Bell → State → State
 bell_after b s = moved (rung s.phase b) (λ p. record { phase = p; roll = s.roll }) s
@@ -83,7 +83,7 @@ listed_terms ladders t s =
 
 -- the answer is the number of the series
 abbrev pub list_answer : ℕ → Listing → State → Result ℕ HouseFault
-list_answer ladders t s = told s.roll.count (listed_terms ladders t s)
+list_answer ladders t s = ok_with s.roll.count (listed_terms ladders t s)
 
 abbrev pub list_after : ℕ → Listing → State → State
 list_after ladders t s = moved (listed_terms ladders t s) (λ terms. record { phase = s.phase; roll = with_listed terms s.roll }) s

@@ -1,7 +1,7 @@
 -- What each step finds, from what is known of a series.
 use Rattle.std.specs.Prelude.{ℕ, Bool, cond, ℤ, ◌+ℤ◌, ◌-ℤ◌, Some, None, Option, unsigned_abs}
-use Rattle.book.specs.declared.marks.Sides.{Sides}
-use Rattle.book.specs.declared.marks.Values.{Values}
+use Rattle.book.specs.declared.figures.Sides.{Sides}
+use Rattle.book.specs.declared.figures.Values.{Values}
 use Rattle.ladders.specs.Prices.{within}
 use Rattle.ladders.specs.Values.{above_of, nearest_price}
 use Rattle.rows.specs.Codes.{window_number}

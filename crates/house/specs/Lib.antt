@@ -11,4 +11,4 @@ pub mod Reach
 pub mod Meaning
 pub mod ByPath
 pub mod Worked
-pub mod Asked
+pub mod Stations

@@ -1,12 +1,12 @@
 -- The worked prices: what a step finds, and the refusal of a chain without evidence.
 use Rattle.std.specs.Prelude.{◌≡◌, ℕ, [], ◌∷◌, pos, Some, None, Option}
 use Rattle.book.specs.Figures.{empty, values}
-use Rattle.book.specs.declared.marks.Values.{Values}
+use Rattle.book.specs.declared.figures.Values.{Values}
 use Rattle.ladders.specs.Multiples.{multiple}
 use Rattle.rows.specs.declared.families.Family.{Family}
 use Rattle.rows.specs.declared.families.Family.TheVariants.{LongBond, FollowingBond, CopiedIndex}
 use Rattle.rows.specs.declared.places.Edition.TheVariants.{Close}
-use Rattle.house.specs.Answers.{Answer, settled}
+use Rattle.house.specs.Answers.{Answer, path_answer}
 use Rattle.house.specs.Found.{Station, finds}
 use Rattle.house.specs.Series.{bare_terms, blank, new_series}
 use Rattle.house.specs.declared.series.Series.{Series}
@@ -36,5 +36,5 @@ bare n f reference = record { number = n; series = new_series (bare_terms f refe
 -- family 8 on family 2 on family 1, at the close, on ticks of 10
 abbrev pub bare_chain : Answer
 bare_chain =
-    settled (λ l. multiple 10) Close (bare 2 CopiedIndex (Some 1))
+    path_answer (λ l. multiple 10) Close (bare 2 CopiedIndex (Some 1))
     (bare 1 FollowingBond (Some 0) ∷ bare 0 LongBond None ∷ [])

@@ -10,7 +10,7 @@ ghost use Rattle.ladders.specs.Values.{nearest_price};
 
 use crate::settling::{Question, price_of};
 use book::books::Book;
-use book::marks::{Sides, Values};
+use book::figures::{Sides, Values};
 use ladders::rounding::nearest;
 use ladders::sets::LadderSet;
 use rows::steps::Step;

@@ -1,6 +1,6 @@
 // The question for a price.
 ghost use Rattle.std.specs.Prelude.{◌≡◌, unsigned_abs};
-ghost use Rattle.house.specs.Answers.{settled_at};
+ghost use Rattle.house.specs.Answers.{answer_at};
 ghost use Rattle.house.specs.ByPath.{ByPath};
 ghost use Rattle.house.specs.Houses.{state};
 ghost use Rattle.house.specs.Meaning.{Explained};
@@ -29,7 +29,7 @@ fn is_open(phase: Phase, edition: Edition) -> bool
 impl<L: LadderSet> House<L> {
     // The answer for a series, by way of its reference, which is an earlier series.
     fn answer<B: Book>(&self, book: &B, number: u8, edition: Edition) -> Answer
-        ensures value { result ≡ settled_at (L.LadderSet.lawful self.now.set) edition (state self.now) (B.Book.meaning book.now) number }
+        ensures value { result ≡ answer_at (L.LadderSet.lawful self.now.set) edition (state self.now) (B.Book.meaning book.now) number }
         ensures reach { AnswerInReach number result }
     {
         let series = self.listed.get(number);
@@ -52,7 +52,7 @@ impl<L: LadderSet> House<L> {
     // The answer to the question, or the refusal that comes before it. Apart from `settle`, whose clauses `path` and `meaning`
     // rest on this one, so that a fault in the answer is told here. Series and edition stay two parameters, as they are two
     // words of a line.
-    fn told<B: Book>(
+    fn answer_to<B: Book>(
         &self,
         book: &B,
         series: i64,
@@ -79,6 +79,6 @@ impl<L: LadderSet> House<L> {
         ensures path { ByPath (L.LadderSet.lawful self.now.set) edition (state self.now) (B.Book.meaning book.now) series result }
         ensures meaning { Explained (L.LadderSet.lawful self.now.set) edition (state self.now) (B.Book.meaning book.now) (unsigned_abs series) result }
     {
-        self.told(book, series, edition)
+        self.answer_to(book, series, edition)
     }
 }

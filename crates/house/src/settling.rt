@@ -85,7 +85,7 @@ fn origin_of(number: u8, reference: Option<Answer>) -> u8
 }
 
 impl<L: LadderSet, B: Book> Question<'_, L, B> {
-    ghost use Rattle.house.specs.Asked.{station_in};
+    ghost use Rattle.house.specs.Stations.{station_in};
 
     // Which of the family's rows settles the series.
     fn choice(&self) -> Choice

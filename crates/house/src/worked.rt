@@ -2,7 +2,7 @@
 ghost use Rattle.std.specs.Prelude.{◌≡◌, Some, None, Err};
 ghost use Rattle.std.specs.List.{AllByRecursion};
 ghost use Rattle.house.specs.Faults.{house_number};
-ghost use Rattle.house.specs.Questions.{as_told};
+ghost use Rattle.house.specs.Questions.{or_no_price};
 ghost use Rattle.house.specs.Worked.{Holds, bare_chain};
 ghost use Rattle.house.specs.declared.faults.HouseFault.TheVariants.{NoPrice};
 
@@ -51,7 +51,7 @@ fn by_theory(tick: u32, step: Step, theory: i64, price: i64) -> WorkedPrice
 pub fn worked_prices() -> ([WorkedPrice; 7], u8)
     ensures prices { AllByRecursion Holds result.0 }
     ensures refused { bare_chain ≡ Err result.1 }
-    ensures told { (as_told bare_chain ≡ Err (NoPrice result.1)) × (house_number (NoPrice result.1) ≡ 10) }
+    ensures number { (or_no_price bare_chain ≡ Err (NoPrice result.1)) × (house_number (NoPrice result.1) ≡ 10) }
 {
     let prices = [
         by_theory(10_000, Step::Theory, 38_514_999, 38_510_000),

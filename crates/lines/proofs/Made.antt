@@ -6,9 +6,9 @@ use Rattle.book.specs.declared.entries.Kind.{Kind}
 use Rattle.book.specs.declared.entries.Kind.TheVariants as kinds
 use Rattle.house.specs.declared.phases.Bell.{Bell}
 use Rattle.rows.specs.declared.places.Edition.{Edition}
-use Rattle.runs.specs.declared.calls.Call.TheVariants as calls
-use Rattle.lines.specs.declared.calls.LineCall.{LineCall}
-use Rattle.lines.specs.declared.calls.LineCall.TheVariants as lines
+use Rattle.calls.specs.declared.call.Call.TheVariants as calls
+use Rattle.lines.specs.declared.line_calls.LineCall.{LineCall}
+use Rattle.lines.specs.declared.line_calls.LineCall.TheVariants as lines
 use Rattle.lines.specs.declared.names.Command.{Command}
 use Rattle.lines.specs.declared.names.Command.TheVariants as commands
 use Rattle.lines.specs.Places.{Missed}

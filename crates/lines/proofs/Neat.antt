@@ -9,7 +9,7 @@ use Rattle.house.specs.declared.phases.Bell.{Bell}
 use Rattle.house.specs.declared.phases.Bell.TheVariants as bells
 use Rattle.rows.specs.declared.places.Edition.{Edition}
 use Rattle.rows.specs.declared.places.Edition.TheVariants as editions
-use Rattle.lines.specs.declared.calls.LineCall.{LineCall}
+use Rattle.lines.specs.declared.line_calls.LineCall.{LineCall}
 use Rattle.lines.specs.declared.names.Command.{Command}
 use Rattle.lines.specs.declared.names.Command.TheVariants as commands
 use Rattle.lines.specs.Fields.{fields, trailed}

@@ -1,9 +1,9 @@
 -- What parsing a line comes to, by what was read of its first field and of the others.
 use Rattle.std.proofs.Common.{◌≡◌, ℕ, ◌+◌, ◌<◌, ◌≤◌, List, [], ◌∷◌, ◌++◌, length, Ok, Err, Result, sym, refl, ap, ◌∙◌, inl, arith}
 use Rattle.house.specs.declared.phases.Bell.TheVariants as bells
-use Rattle.runs.specs.declared.calls.Call.TheVariants as calls
-use Rattle.lines.specs.declared.calls.LineCall.{LineCall}
-use Rattle.lines.specs.declared.calls.LineCall.TheVariants as lines
+use Rattle.calls.specs.declared.call.Call.TheVariants as calls
+use Rattle.lines.specs.declared.line_calls.LineCall.{LineCall}
+use Rattle.lines.specs.declared.line_calls.LineCall.TheVariants as lines
 use Rattle.lines.specs.declared.faults.NotRead.{NotRead}
 use Rattle.lines.specs.declared.names.Command.{Command}
 use Rattle.lines.specs.Fields.{fields, trailed}

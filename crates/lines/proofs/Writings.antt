@@ -8,7 +8,7 @@ use Rattle.house.specs.declared.phases.Bell.{Bell}
 use Rattle.house.specs.declared.phases.Bell.TheVariants as bells
 use Rattle.rows.specs.declared.places.Edition.{Edition}
 use Rattle.rows.specs.declared.places.Edition.TheVariants as editions
-use Rattle.lines.specs.declared.calls.LineCall.{LineCall}
+use Rattle.lines.specs.declared.line_calls.LineCall.{LineCall}
 use Rattle.lines.specs.declared.faults.NotRead.{NotRead}
 use Rattle.lines.specs.Fields.{fields}
 use Rattle.lines.specs.Names.{text}

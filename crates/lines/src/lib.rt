@@ -1,7 +1,7 @@
 // Lines of text: calls as they are written, and the reader of them.
 #![tactic(auto)]
 
-pub mod calls;
+pub mod line_calls;
 mod classes;
 pub mod faults;
 mod names;
@@ -16,7 +16,7 @@ mod words;
 // Examples: lines of every command, and the places of lines that are not of the grammar.
 #[cfg(test)]
 mod tests {
-    use crate::calls::LineCall;
+    use crate::line_calls::LineCall;
     use crate::faults::NotRead;
     use crate::parsing::parse;
     use book::days::Day;
@@ -24,7 +24,7 @@ mod tests {
     use house::phases::Bell;
     use house::terms::Listing;
     use rows::places::{Edition, Marks};
-    use runs::calls::Call;
+    use calls::call::Call;
 
     fn entry(series: i64, stamp: i64, kind: Kind) -> LineCall {
         LineCall::Call(Call::Enter(Entry {

@@ -4,11 +4,11 @@
 ghost use Rattle.std.specs.Prelude.{◌≡◌};
 ghost use Rattle.lines.specs.Reading.{ReadFrom};
 ghost use Rattle.lines.specs.Spelled.{Alone, FieldsEnd, Longest, Named, OnePlace, OneReading, Parsed, Within, WritingsApart, values};
-ghost use Rattle.lines.specs.declared.calls.LineCall.TheVariants as lines;
+ghost use Rattle.lines.specs.declared.line_calls.LineCall.TheVariants as lines;
 ghost use Rattle.lines.specs.declared.names.Command.TheVariants as commands;
-ghost use Rattle.runs.specs.declared.calls.Call.TheVariants as calls;
+ghost use Rattle.calls.specs.declared.call.Call.TheVariants as calls;
 
-use crate::calls::LineCall;
+use crate::line_calls::LineCall;
 use crate::faults::NotRead;
 use crate::names::Command;
 use crate::readers::{LONGEST, Reader};
@@ -19,7 +19,7 @@ use book::entries::{Entry, Kind};
 use house::phases::Bell;
 use house::terms::Listing;
 use rows::places::{Edition, Marks};
-use runs::calls::Call;
+use calls::call::Call;
 
 // The values of a line as nested pairs, as they are read.
 type Four = (i64, (i64, (i64, (i64, ()))));

@@ -17,7 +17,7 @@ mod tests {
     use ladders::sets::{EvenSet, SteppedSet};
     use rows::places::{Edition, Marks};
     use rows::steps::Step;
-    use runs::calls::Call;
+    use calls::call::Call;
     use runs::comparing::{Answers, Run, compare, compare_makes};
     use std::test::Fail;
     use tape::tapes::{BLANK, Tape};

@@ -4,16 +4,16 @@ use lib.Signed.{le_z}
 use Rattle.std.proofs.lemmas.Int.{ints}
 use Rattle.std.proofs.lemmas.Bool.{and_parts, cond_both, true≢false}
 use Rattle.book.specs.Entries.{allowed, kind_lawful, lots_lawful, price_lawful}
-use Rattle.book.specs.Figures.{concerns, empty, entered_in, latest, marked, settled, traded, values, with_auction}
+use Rattle.book.specs.Figures.{concerns, empty, entered_in, latest, with_entry, unstamped, traded, values, with_auction}
 use Rattle.book.specs.Records.{every, figures_of}
 use Rattle.book.specs.Windows.{edges}
 use Rattle.book.specs.declared.days.Day.{Day}
 use Rattle.book.specs.declared.entries.Entry.{Entry}
 use Rattle.book.specs.declared.entries.Kind.{Kind}
 use Rattle.book.specs.declared.entries.Kind.TheVariants.{Trade, Auction, Leg, Spread, Quote}
-use Rattle.book.specs.declared.marks.Figures.{Figures}
-use Rattle.book.specs.declared.marks.Last.{Last}
-use Rattle.book.specs.declared.marks.Values.{Values}
+use Rattle.book.specs.declared.figures.Figures.{Figures}
+use Rattle.book.specs.declared.figures.Last.{Last}
+use Rattle.book.specs.declared.figures.Values.{Values}
 use Rattle.book.proofs.Ranges.{allowed_kind}
 use Rattle.runs.specs.Added.{Among, extra}
 use Rattle.runs.specs.Kept.{kept, on_path}
@@ -39,17 +39,17 @@ record FiguresMore (f g : Figures) : Type 0 where
   quote : f.quote ≡ g.quote
   lots : f.lots ≤ℤ g.lots
 
-settled_still : {V : Type 0} (o p : Option (Last V)) → StillThere o p → StillThere (settled o) (settled p)
-settled_still None p h there = absurd (true≢false (sym there))
-settled_still (Some o) None h there = h refl
-settled_still (Some o) (Some p) h there = refl
+unstamped_still : {V : Type 0} (o p : Option (Last V)) → StillThere o p → StillThere (unstamped o) (unstamped p)
+unstamped_still None p h there = absurd (true≢false (sym there))
+unstamped_still (Some o) None h there = h refl
+unstamped_still (Some o) (Some p) h there = refl
 
 more_values : (f g : Figures) → FiguresMore f g → ValuesMore (values f) (values g)
 more_values f g m = record {
-  trade = settled_still f.trade g.trade m.trade;
-  auction = settled_still f.auction g.auction m.auction;
-  spread = settled_still f.spread g.spread m.spread;
-  quote = ap settled m.quote;
+  trade = unstamped_still f.trade g.trade m.trade;
+  auction = unstamped_still f.auction g.auction m.auction;
+  spread = unstamped_still f.spread g.spread m.spread;
+  quote = ap unstamped m.quote;
   lots = m.lots;
 }
 
@@ -69,37 +69,37 @@ added_trade t p n f g h m =
 added_auction : (t p : ℤ) (f g : Figures) → FiguresMore f g → FiguresMore f (with_auction t p g)
 added_auction t p f g m = record { trade = m.trade; auction = λ there. latest_there g.auction t p; spread = m.spread; quote = m.quote; lots = m.lots }
 
-added_marked : (k : Kind) (t : ℤ) (f g : Figures) → kind_lawful k ≡ true → extra k ≡ true → FiguresMore f g → FiguresMore f (marked k t g)
-added_marked (Trade p n) t f g h is m = added_trade t p n f g h m
-added_marked (Auction p n) t f g h is m = added_trade t p n f (with_auction t p g) h (added_auction t p f g m)
-added_marked (Leg p n) t f g h is m = absurd (true≢false (sym is))
-added_marked (Spread v) t f g h is m = record { trade = m.trade; auction = m.auction; spread = λ there. latest_there g.spread t v; quote = m.quote; lots = m.lots }
-added_marked (Quote b a) t f g h is m = absurd (true≢false (sym is))
+added_with_entry : (k : Kind) (t : ℤ) (f g : Figures) → kind_lawful k ≡ true → extra k ≡ true → FiguresMore f g → FiguresMore f (with_entry k t g)
+added_with_entry (Trade p n) t f g h is m = added_trade t p n f g h m
+added_with_entry (Auction p n) t f g h is m = added_trade t p n f (with_auction t p g) h (added_auction t p f g m)
+added_with_entry (Leg p n) t f g h is m = absurd (true≢false (sym is))
+added_with_entry (Spread v) t f g h is m = record { trade = m.trade; auction = m.auction; spread = λ there. latest_there g.spread t v; quote = m.quote; lots = m.lots }
+added_with_entry (Quote b a) t f g h is m = absurd (true≢false (sym is))
 
 both_traded : (t p n : ℤ) (f g : Figures) → FiguresMore f g → FiguresMore (traded t p n f) (traded t p n g)
 both_traded t p n f g m =
     let lots = m.lots in
     record { trade = λ there. latest_there g.trade t p; auction = m.auction; spread = m.spread; quote = m.quote; lots = omega (arith, ints) }
 
-both_marked : (k : Kind) (t : ℤ) (f g : Figures) → FiguresMore f g → FiguresMore (marked k t f) (marked k t g)
-both_marked (Trade p n) t f g m = both_traded t p n f g m
-both_marked (Auction p n) t f g m =
+both_with_entry : (k : Kind) (t : ℤ) (f g : Figures) → FiguresMore f g → FiguresMore (with_entry k t f) (with_entry k t g)
+both_with_entry (Trade p n) t f g m = both_traded t p n f g m
+both_with_entry (Auction p n) t f g m =
     both_traded t p n (with_auction t p f) (with_auction t p g)
     (record { trade = m.trade; auction = λ there. latest_there g.auction t p; spread = m.spread; quote = m.quote; lots = m.lots })
-both_marked (Leg p n) t f g m = m
-both_marked (Spread v) t f g m = record { trade = m.trade; auction = m.auction; spread = λ there. latest_there g.spread t v; quote = m.quote; lots = m.lots }
-both_marked (Quote b a) t f g m =
+both_with_entry (Leg p n) t f g m = m
+both_with_entry (Spread v) t f g m = record { trade = m.trade; auction = m.auction; spread = λ there. latest_there g.spread t v; quote = m.quote; lots = m.lots }
+both_with_entry (Quote b a) t f g m =
     record { trade = m.trade; auction = m.auction; spread = m.spread; quote = ap (λ q. latest q t (record { bid = b; ask = a })) m.quote; lots = m.lots }
 
 added_entered : (s : ℕ) (x : ℤ × ℤ) (f g : Figures) (e : Entry) → kind_lawful e.kind ≡ true → extra e.kind ≡ true → FiguresMore f g → FiguresMore f (entered_in s x g e)
 added_entered s x f g e h is m =
-    cond_both (concerns s x e) (marked e.kind e.stamp g) g (FiguresMore f) (λ yes. added_marked e.kind e.stamp f g h is m) (λ no. m)
+    cond_both (concerns s x e) (with_entry e.kind e.stamp g) g (FiguresMore f) (λ yes. added_with_entry e.kind e.stamp f g h is m) (λ no. m)
 
 both_entered : (s : ℕ) (x : ℤ × ℤ) (f g : Figures) (e : Entry) → FiguresMore f g → FiguresMore (entered_in s x f e) (entered_in s x g e)
 both_entered s x f g e m = by (concerns s x e)
   where
-    by : (b : Bool) → FiguresMore (cond b (marked e.kind e.stamp f) f) (cond b (marked e.kind e.stamp g) g)
-    by true = both_marked e.kind e.stamp f g m
+    by : (b : Bool) → FiguresMore (cond b (with_entry e.kind e.stamp f) f) (cond b (with_entry e.kind e.stamp g) g)
+    by true = both_with_entry e.kind e.stamp f g m
     by false = m
 
 -- ---- all entries

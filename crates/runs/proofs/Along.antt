@@ -3,7 +3,7 @@ use Rattle.std.proofs.Common.{◌≡◌, ℕ, Bool, true, List, [], ◌∷◌, �
 use Rattle.std.specs.List.{AllZip, AllByRecursion}
 use Rattle.book.specs.Bounds.{bounded}
 use Rattle.rows.specs.declared.places.Edition.{Edition}
-use Rattle.house.specs.Answers.{Answer, answered, settled}
+use Rattle.house.specs.Answers.{Answer, answered, path_answer}
 use Rattle.house.specs.Found.{Station}
 use Rattle.house.specs.Series.{lawful_series}
 use Rattle.runs.specs.Raised.{Matched}
@@ -25,9 +25,9 @@ lawful_pairs R (x ∷ xs) (y ∷ ys) l m r = ((l.0, m.0, r.0), lawful_pairs R xs
 
 -- where related stations with related answers for their references have related answers, so have the ends of two paths of
 -- related stations
-pub along : (P : ℕ → ℤ → Bool) (ed : Edition) (R : Station → Station → Type 0) (A : Answer → Answer → Type 0) → ((x y : Station) (u v : Option Answer) → R x y → Matched A u v → A (answered P ed x u) (answered P ed y v)) → (x y : Station) (xs ys : List Station) → AllZip R (x ∷ xs) (y ∷ ys) → A (settled P ed x xs) (settled P ed y ys)
+pub along : (P : ℕ → ℤ → Bool) (ed : Edition) (R : Station → Station → Type 0) (A : Answer → Answer → Type 0) → ((x y : Station) (u v : Option Answer) → R x y → Matched A u v → A (answered P ed x u) (answered P ed y v)) → (x y : Station) (xs ys : List Station) → AllZip R (x ∷ xs) (y ∷ ys) → A (path_answer P ed x xs) (path_answer P ed y ys)
 along P ed R A next x y [] [] r = next x y None None r.0 tt
 along P ed R A next x y [] (b ∷ ys) r = absurd r.1
 along P ed R A next x y (a ∷ xs) [] r = absurd r.1
 along P ed R A next x y (a ∷ xs) (b ∷ ys) r =
-    next x y (Some (settled P ed a xs)) (Some (settled P ed b ys)) r.0 (along P ed R A next a b xs ys r.1)
+    next x y (Some (path_answer P ed a xs)) (Some (path_answer P ed b ys)) r.0 (along P ed R A next a b xs ys r.1)

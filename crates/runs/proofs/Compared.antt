@@ -1,4 +1,4 @@
--- Two runs compared, by the calls taken in each.
+-- Two runs compared, by the calls calls_taken in each.
 use Rattle.std.proofs.Common.{◌≡◌, ℕ, ◌+◌, Bool, true, ◌||◌, List, [], ◌∷◌, map, length, ℤ, pos, nat_abs, Ok, Err, fold, Result, sym, refl, ap, ◌∙◌, subst, add-zero, arith}
 use Rattle.std.specs.List.{AllZip, AllByRecursion}
 use Rattle.std.proofs.lemmas.Bool.{and_parts, eq-eqb, or_right}
@@ -11,16 +11,16 @@ use Rattle.book.specs.Records.{every, figures_of}
 use Rattle.book.specs.Windows.{edges}
 use Rattle.book.specs.declared.days.Day.{Day}
 use Rattle.book.specs.declared.entries.Entry.{Entry}
-use Rattle.book.specs.declared.marks.Figures.{Figures}
+use Rattle.book.specs.declared.figures.Figures.{Figures}
 use Rattle.book.proofs.Growth.{bounded_empty, bounded_entered}
 use Rattle.book.proofs.Ranges.{allowed_kind}
 use Rattle.ladders.specs.Rounding.{Near}
 use Rattle.rows.specs.declared.places.Edition.{Edition}
-use Rattle.house.specs.Answers.{Answer, references, settled, settled_at, station_of}
+use Rattle.house.specs.Answers.{Answer, references, path_answer, answer_at, station_of}
 use Rattle.house.specs.Calls.{new_state}
 use Rattle.house.specs.Found.{Station}
 use Rattle.house.specs.Houses.{state}
-use Rattle.house.specs.Questions.{as_told, is_open}
+use Rattle.house.specs.Questions.{or_no_price, is_open}
 use Rattle.house.specs.Rolls.{is_listed}
 use Rattle.house.specs.Series.{lawful_series}
 use Rattle.house.specs.declared.answers.Settlement.{Settlement}
@@ -29,10 +29,11 @@ use Rattle.house.specs.declared.faults.HouseFault.TheVariants.{NoPrice}
 use Rattle.house.specs.declared.houses.House.{House}
 use Rattle.house.proofs.OnPath.{in_time}
 use Rattle.runs.specs.Kept.{on_path}
-use Rattle.runs.specs.Laws.{Alike, Asked, Comparable, Laws, MoreEvidence, NoLater, NotLower, RaisedEvidence, Run, SameEvidence, answer_in, end, new_run, path_of, run_of, taken_in}
+use Rattle.runs.specs.Laws.{Alike, MayAskAfter, Comparable, Laws, MoreEvidence, NoLater, NotLower, RaisedEvidence, RunMeaning, SameEvidence, answer_in, end, new_run, path_of, run_of, calls_taken_in}
 use Rattle.runs.specs.Readings.{entries, listed, phase_after, stands}
-use Rattle.runs.specs.Runs.{World, after_run, new_world, taken}
-use Rattle.runs.specs.declared.calls.Call.{Call}
+use Rattle.calls.specs.Worlds.{World, new_world}
+use Rattle.runs.specs.Runs.{after_run, calls_taken}
+use Rattle.calls.specs.declared.call.Call.{Call}
 use Rattle.runs.proofs.AddedFigures.{more_figures}
 use Rattle.runs.proofs.Along.{StationLawful}
 use Rattle.runs.proofs.KeptFigures.{same_figures}
@@ -41,27 +42,27 @@ use Rattle.runs.proofs.RaisedAnswers.{StationRaised, raised_answers}
 use Rattle.runs.proofs.RaisedFigures.{raised_figures}
 use Rattle.runs.proofs.ToldRuns.{told_allowed, told_book, told_from_new, told_lawful, told_series}
 
--- ---- stations by the calls taken
+-- ---- stations by the calls calls_taken
 
--- the station of a series on a day, by the calls taken
+-- the station of a series on a day, by the calls calls_taken
 abbrev spot : Day → List Call → ℕ → Station
 spot d xs n = record { number = n; series = stands xs n; figures = λ w. values (figures_of d (entries xs) n w) }
 
--- the answer by the calls taken
+-- the answer by the calls calls_taken
 abbrev told_answer : (ℕ → ℤ → Bool) → Edition → Day → List Call → ℕ → Answer
-told_answer P ed d xs n = settled P ed (spot d xs n) (map (spot d xs) (references (stands xs) n))
+told_answer P ed d xs n = path_answer P ed (spot d xs n) (map (spot d xs) (references (stands xs) n))
 
 module _ (d : Day) (k ladders : ℕ) (P : ℕ → ℤ → Bool) (calls : List Call) where
   abbrev xs : List Call
-  xs = taken ladders P calls (new_world d k)
+  xs = calls_taken ladders P calls (new_world d k)
 
   abbrev w : World
   w = after_run ladders P calls (new_world d k)
 
-  -- what the house would answer is told by the calls taken
-  answer_told : (ed : Edition) (n : ℕ) → settled_at P ed w.state w.book n ≡ told_answer P ed d xs n
+  -- what the house would answer is told by the calls calls_taken
+  answer_told : (ed : Edition) (n : ℕ) → answer_at P ed w.state w.book n ≡ told_answer P ed d xs n
   answer_told ed n = λ i.
-      settled P ed (station_of n (told_series d k ladders P calls n i) (told_book d k ladders P calls i))
+      path_answer P ed (station_of n (told_series d k ladders P calls n i) (told_book d k ladders P calls i))
       (map (λ r. station_of r (told_series d k ladders P calls r i) (told_book d k ladders P calls i)) (references (λ r. told_series d k ladders P calls r i) n))
 
   -- figures of allowed entries are bounded
@@ -108,14 +109,14 @@ module _ (d : Day) (n : ℕ) (xs ys : List Call) (A : ℕ → Type 0) (R : Stati
       subst (λ (ns : List ℕ). AllZip R (map (spot d xs) (path_of xs n)) (spot d ys n ∷ map (spot d ys) ns)) (ap tail numbers)
       (pairs A R (spot d xs) (spot d ys) (path_of xs n) (path_of xs n) each a (each_on_path (path_of xs n) (path_of xs n) (λ k h. h)))
 
--- ---- the laws, of the calls taken in two runs of one day over the same lawful prices
+-- ---- the laws, of the calls calls_taken in two runs of one day over the same lawful prices
 
 module _ (d : Day) (j k ladders other_ladders : ℕ) (P : ℕ → ℤ → Bool) (calls other_calls : List Call) (ed : Edition) (n : ℕ) where
   abbrev first : List Call
-  first = taken ladders P calls (new_world d j)
+  first = calls_taken ladders P calls (new_world d j)
 
   abbrev second : List Call
-  second = taken other_ladders P other_calls (new_world d k)
+  second = calls_taken other_ladders P other_calls (new_world d k)
 
   same_told : SameEvidence n first second → told_answer P ed d first n ≡ told_answer P ed d second n
   same_told e =
@@ -123,7 +124,7 @@ module _ (d : Day) (j k ladders other_ladders : ℕ) (P : ℕ → ℤ → Bool) 
       (λ q s on i. record { number = q; series = s i; figures = λ v. values (same_figures d (path_of first n) (entries first) (entries second) q v e.evidence on i) })
       e.terms e.numbers in
       let rest = same_from_all_zip ◌≡◌ (map (spot d first) (references (stands first) n)) (map (spot d second) (references (stands second) n)) ps.1 (λ x y same. sym same) in
-      λ i. settled P ed (ps.0 i) (sym rest i)
+      λ i. path_answer P ed (ps.0 i) (sym rest i)
 
   raised_told : ((l : ℕ) (z : ℤ) → Near (P l) z) → RaisedEvidence n first second → NotLower (told_answer P ed d first n) (told_answer P ed d second n)
   raised_told near e =
@@ -153,70 +154,70 @@ module _ (d : Day) (j k ladders other_ladders : ℕ) (P : ℕ → ℤ → Bool) 
 
 -- ---- the laws, of two runs that can be compared
 
--- what may be asked in the end is told by the calls taken
-asked_in_the_end : (d : Day) (k : ℕ) (r : Run) (n : ℤ) (ed : Edition) → r.start ≡ new_world d k → (is_listed (end r).state.roll.count n ≡ is_listed (length (listed (taken_in r))) n) × (is_open (end r).state.phase ed ≡ is_open (phase_after (taken_in r)) ed)
+-- what may be asked in the end is told by the calls calls_taken
+asked_in_the_end : (d : Day) (k : ℕ) (r : RunMeaning) (n : ℤ) (ed : Edition) → r.start ≡ new_world d k → (is_listed (end r).state.roll.count n ≡ is_listed (length (listed (calls_taken_in r))) n) × (is_open (end r).state.phase ed ≡ is_open (phase_after (calls_taken_in r)) ed)
 asked_in_the_end d k r n ed new =
     let t = told_from_new d k r.ladders r.lawful r.calls r.start (end r) refl new in
     (ap (λ c. is_listed c n) t.roll.count, ap (λ p. is_open p ed) t.phase)
 
--- the answer to a question in time is told by the calls taken
-asked_answer : (d : Day) (j : ℕ) (r : Run) (n : ℤ) (ed : Edition) → Asked r n ed → r.start ≡ new_world d j → answer_in r n ed ≡ as_told (told_answer r.lawful ed d (taken_in r) (nat_abs n))
+-- the answer to a question in time is told by the calls calls_taken
+asked_answer : (d : Day) (j : ℕ) (r : RunMeaning) (n : ℤ) (ed : Edition) → MayAskAfter r n ed → r.start ≡ new_world d j → answer_in r n ed ≡ or_no_price (told_answer r.lawful ed d (calls_taken_in r) (nat_abs n))
 asked_answer d j r n ed q new =
     let k = nat_abs n in
     let same = asked_in_the_end d j r n ed new in
     in_time r.lawful ed (end r).state (end r).book n (record { opened = same.1 ∙ q.opened; listed = same.0 ∙ q.listed })
-    ∙ ap as_told (subst (λ (s : World). settled_at r.lawful ed (after_run r.ladders r.lawful r.calls s).state (after_run r.ladders r.lawful r.calls s).book k ≡ told_answer r.lawful ed d (taken r.ladders r.lawful r.calls s) k) (sym new) (answer_told d j r.ladders r.lawful r.calls ed k))
+    ∙ ap or_no_price (subst (λ (s : World). answer_at r.lawful ed (after_run r.ladders r.lawful r.calls s).state (after_run r.ladders r.lawful r.calls s).book k ≡ told_answer r.lawful ed d (calls_taken r.ladders r.lawful r.calls s) k) (sym new) (answer_told d j r.ladders r.lawful r.calls ed k))
 
--- what holds of the calls taken from new houses on empty books over the same prices holds of runs that can be compared
-carried : (Rel : Answer → Answer → Type 0) (E : ℕ → List Call → List Call → Type 0) (a b : Run) (n : ℤ) (ed : Edition)
-    → ((d : Day) (j k : ℕ) → E (nat_abs n) (taken a.ladders a.lawful a.calls (new_world d j)) (taken b.ladders a.lawful b.calls (new_world d k)) → Rel (told_answer a.lawful ed d (taken a.ladders a.lawful a.calls (new_world d j)) (nat_abs n)) (told_answer a.lawful ed d (taken b.ladders a.lawful b.calls (new_world d k)) (nat_abs n)))
-    → (c : Comparable a b n ed) → E (nat_abs n) (taken_in a) (taken_in b) → Rel (told_answer a.lawful ed c.day (taken_in a) (nat_abs n)) (told_answer b.lawful ed c.day (taken_in b) (nat_abs n))
+-- what holds of the calls calls_taken from new houses on empty books over the same prices holds of runs that can be compared
+carried : (Rel : Answer → Answer → Type 0) (E : ℕ → List Call → List Call → Type 0) (a b : RunMeaning) (n : ℤ) (ed : Edition)
+    → ((d : Day) (j k : ℕ) → E (nat_abs n) (calls_taken a.ladders a.lawful a.calls (new_world d j)) (calls_taken b.ladders a.lawful b.calls (new_world d k)) → Rel (told_answer a.lawful ed d (calls_taken a.ladders a.lawful a.calls (new_world d j)) (nat_abs n)) (told_answer a.lawful ed d (calls_taken b.ladders a.lawful b.calls (new_world d k)) (nat_abs n)))
+    → (c : Comparable a b n ed) → E (nat_abs n) (calls_taken_in a) (calls_taken_in b) → Rel (told_answer a.lawful ed c.day (calls_taken_in a) (nat_abs n)) (told_answer b.lawful ed c.day (calls_taken_in b) (nat_abs n))
 carried Rel E a b n ed law c =
     let d = c.day in
     let m = nat_abs n in
     let prices : a.lawful ≡ b.lawful = λ i l v. c.alike.prices l v i in
     let at_start : World → (ℕ → ℤ → Bool) → World → Type 0 = λ s Q t.
-    E m (taken a.ladders a.lawful a.calls s) (taken b.ladders Q b.calls t) → Rel (told_answer a.lawful ed d (taken a.ladders a.lawful a.calls s) m) (told_answer Q ed d (taken b.ladders Q b.calls t) m) in
+    E m (calls_taken a.ladders a.lawful a.calls s) (calls_taken b.ladders Q b.calls t) → Rel (told_answer a.lawful ed d (calls_taken a.ladders a.lawful a.calls s) m) (told_answer Q ed d (calls_taken b.ladders Q b.calls t) m) in
     subst (λ (Q : ℕ → ℤ → Bool). at_start a.start Q b.start) prices
     (subst (λ (t : World). at_start a.start a.lawful t) (sym c.other_new)
     (subst (λ (s : World). at_start s a.lawful (new_world d c.other_capacity)) (sym c.new) (law d c.capacity c.other_capacity)))
 
-not_lower_told : (a b : Answer) → NotLower a b → NotLower (as_told a) (as_told b)
+not_lower_told : (a b : Answer) → NotLower a b → NotLower (or_no_price a) (or_no_price b)
 not_lower_told (Ok s) (Ok t) h = h
 not_lower_told (Ok s) (Err p) h = absurd h
 not_lower_told (Err o) (Ok t) h = absurd h
 not_lower_told (Err o) (Err p) h = ap NoPrice h
 
-no_later_told : (a b : Answer) → NoLater a b → NoLater (as_told a) (as_told b)
+no_later_told : (a b : Answer) → NoLater a b → NoLater (or_no_price a) (or_no_price b)
 no_later_told (Ok s) (Ok t) h = h
 no_later_told (Ok s) (Err p) h = absurd h
 no_later_told (Err o) b h = tt
 
-module _ (a b : Run) (n : ℤ) (ed : Edition) (c : Comparable a b n ed) where
-  same_answers : SameEvidence (nat_abs n) (taken_in a) (taken_in b) → answer_in a n ed ≡ answer_in b n ed
+module _ (a b : RunMeaning) (n : ℤ) (ed : Edition) (c : Comparable a b n ed) where
+  same_answers : SameEvidence (nat_abs n) (calls_taken_in a) (calls_taken_in b) → answer_in a n ed ≡ answer_in b n ed
   same_answers e =
       asked_answer c.day c.capacity a n ed c.alike.first c.new
-      ∙ ap as_told (carried ◌≡◌ SameEvidence a b n ed (λ d j k. same_told d j k a.ladders b.ladders a.lawful a.calls b.calls ed (nat_abs n)) c e)
+      ∙ ap or_no_price (carried ◌≡◌ SameEvidence a b n ed (λ d j k. same_told d j k a.ladders b.ladders a.lawful a.calls b.calls ed (nat_abs n)) c e)
       ∙ sym (asked_answer c.day c.other_capacity b n ed c.alike.second c.other_new)
 
-  raised_not_lower : ((l : ℕ) (z : ℤ) → Near (a.lawful l) z) → RaisedEvidence (nat_abs n) (taken_in a) (taken_in b) → NotLower (answer_in a n ed) (answer_in b n ed)
+  raised_not_lower : ((l : ℕ) (z : ℤ) → Near (a.lawful l) z) → RaisedEvidence (nat_abs n) (calls_taken_in a) (calls_taken_in b) → NotLower (answer_in a n ed) (answer_in b n ed)
   raised_not_lower near e =
-      let x = told_answer a.lawful ed c.day (taken_in a) (nat_abs n) in
-      let y = told_answer b.lawful ed c.day (taken_in b) (nat_abs n) in
+      let x = told_answer a.lawful ed c.day (calls_taken_in a) (nat_abs n) in
+      let y = told_answer b.lawful ed c.day (calls_taken_in b) (nat_abs n) in
       let law = carried NotLower RaisedEvidence a b n ed (λ d j k. raised_told d j k a.ladders b.ladders a.lawful a.calls b.calls ed (nat_abs n) near) c e in
       subst (λ (p : Result Settlement HouseFault). NotLower p (answer_in b n ed)) (sym (asked_answer c.day c.capacity a n ed c.alike.first c.new))
-      (subst (λ (q : Result Settlement HouseFault). NotLower (as_told x) q) (sym (asked_answer c.day c.other_capacity b n ed c.alike.second c.other_new)) (not_lower_told x y law))
+      (subst (λ (q : Result Settlement HouseFault). NotLower (or_no_price x) q) (sym (asked_answer c.day c.other_capacity b n ed c.alike.second c.other_new)) (not_lower_told x y law))
 
-  more_no_later : MoreEvidence (nat_abs n) (taken_in a) (taken_in b) → NoLater (answer_in a n ed) (answer_in b n ed)
+  more_no_later : MoreEvidence (nat_abs n) (calls_taken_in a) (calls_taken_in b) → NoLater (answer_in a n ed) (answer_in b n ed)
   more_no_later e =
-      let x = told_answer a.lawful ed c.day (taken_in a) (nat_abs n) in
-      let y = told_answer b.lawful ed c.day (taken_in b) (nat_abs n) in
+      let x = told_answer a.lawful ed c.day (calls_taken_in a) (nat_abs n) in
+      let y = told_answer b.lawful ed c.day (calls_taken_in b) (nat_abs n) in
       let law = carried NoLater MoreEvidence a b n ed (λ d j k. more_told d j k a.ladders b.ladders a.lawful a.calls b.calls ed (nat_abs n)) c e in
       subst (λ (p : Result Settlement HouseFault). NoLater p (answer_in b n ed)) (sym (asked_answer c.day c.capacity a n ed c.alike.first c.new))
-      (subst (λ (q : Result Settlement HouseFault). NoLater (as_told x) q) (sym (asked_answer c.day c.other_capacity b n ed c.alike.second c.other_new)) (no_later_told x y law))
+      (subst (λ (q : Result Settlement HouseFault). NoLater (or_no_price x) q) (sym (asked_answer c.day c.other_capacity b n ed c.alike.second c.other_new)) (no_later_told x y law))
 
 -- the answers of two runs keep all three laws
-pub laws : (a b : Run) (n : ℤ) (ed : Edition) → ((l : ℕ) (z : ℤ) → Near (a.lawful l) z) → Laws (Comparable a b n ed) a b n ed (answer_in a n ed) (answer_in b n ed)
+pub laws : (a b : RunMeaning) (n : ℤ) (ed : Edition) → ((l : ℕ) (z : ℤ) → Near (a.lawful l) z) → Laws (Comparable a b n ed) a b n ed (answer_in a n ed) (answer_in b n ed)
 laws a b n ed near = record {
   one = refl;
   other = refl;
@@ -226,7 +227,7 @@ laws a b n ed near = record {
 }
 
 -- two runs that began with new houses on empty books need not be told so
-laws_of_new : (a b : Run) (n : ℤ) (ed : Edition) (x y : Result Settlement HouseFault) (d : Day) (j k : ℕ) → a.start ≡ new_world d j → b.start ≡ new_world d k → Laws (Comparable a b n ed) a b n ed x y → Laws (Alike a b n ed) a b n ed x y
+laws_of_new : (a b : RunMeaning) (n : ℤ) (ed : Edition) (x y : Result Settlement HouseFault) (d : Day) (j k : ℕ) → a.start ≡ new_world d j → b.start ≡ new_world d k → Laws (Comparable a b n ed) a b n ed x y → Laws (Alike a b n ed) a b n ed x y
 laws_of_new a b n ed x y d j k new other_new l = record {
   one = l.one;
   other = l.other;
@@ -242,9 +243,9 @@ laws_of_new a b n ed x y d j k new other_new l = record {
 pub begun : {L : Type 0} {bound : _} (size : L → ℕ) (lawful : L → ℕ → ℤ → Bool) (h : House L bound) (m : Ledger) (set : L) (d : Day) (k : ℕ) (calls : List Call) → state h ≡ new_state → h.set ≡ set → m ≡ fresh d k → run_of size lawful h m calls ≡ new_run size lawful set d k calls
 begun size lawful h m set d k calls new same empty_book = λ i. record { ladders = size (same i); lawful = lawful (same i); start = record { state = new i; book = empty_book i }; calls = calls }
 
-pub laws_begun : (a b c e : Run) (n m : ℤ) (ed : Edition) (x y : Result Settlement HouseFault) (d : Day) (j k : ℕ) → a ≡ c → b ≡ e → n ≡ m → c.start ≡ new_world d j → e.start ≡ new_world d k → Laws (Comparable a b n ed) a b n ed x y → Laws (Alike c e m ed) c e m ed x y
+pub laws_begun : (a b c e : RunMeaning) (n m : ℤ) (ed : Edition) (x y : Result Settlement HouseFault) (d : Day) (j k : ℕ) → a ≡ c → b ≡ e → n ≡ m → c.start ≡ new_world d j → e.start ≡ new_world d k → Laws (Comparable a b n ed) a b n ed x y → Laws (Alike c e m ed) c e m ed x y
 laws_begun a b c e n m ed x y d j k first second number new other_new l =
     laws_of_new c e m ed x y d j k new other_new
     (subst (λ (z : ℤ). Laws (Comparable c e z ed) c e z ed x y) number
-    (subst (λ (r : Run). Laws (Comparable c r n ed) c r n ed x y) second
-    (subst (λ (r : Run). Laws (Comparable r b n ed) r b n ed x y) first l)))
+    (subst (λ (r : RunMeaning). Laws (Comparable c r n ed) c r n ed x y) second
+    (subst (λ (r : RunMeaning). Laws (Comparable r b n ed) r b n ed x y) first l)))

@@ -6,7 +6,7 @@ use Rattle.book.specs.Figures.{is_series}
 use Rattle.book.specs.Records.{every, figures_of}
 use Rattle.book.specs.declared.days.Day.{Day}
 use Rattle.book.specs.declared.entries.Entry.{Entry}
-use Rattle.book.specs.declared.marks.Figures.{Figures}
+use Rattle.book.specs.declared.figures.Figures.{Figures}
 use Rattle.book.proofs.Told.{evidence}
 use Rattle.runs.specs.Kept.{kept, on_path}
 

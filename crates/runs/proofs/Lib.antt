@@ -5,7 +5,6 @@ pub mod Along
 pub mod Inside
 pub mod RaisedAnswers
 pub mod MoreAnswers
-pub mod Refusals
 pub mod OneCall
 pub mod ToldRuns
 pub mod Compared

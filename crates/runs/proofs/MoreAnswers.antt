@@ -5,7 +5,7 @@ use Rattle.std.specs.List.{AllZip, AllByRecursion}
 use Rattle.std.proofs.lemmas.Int.{ints}
 use Rattle.std.proofs.lemmas.Bool.{lt-ltb, ltb-true}
 use Rattle.book.specs.Bounds.{bounded}
-use Rattle.book.specs.declared.marks.Values.{Values}
+use Rattle.book.specs.declared.figures.Values.{Values}
 use Rattle.book.proofs.Growth.{parts}
 use Rattle.ladders.specs.Fractions.{inside}
 use Rattle.ladders.specs.Values.{nearest_of, nearest_price}
@@ -13,7 +13,7 @@ use Rattle.rows.specs.declared.places.Edition.{Edition}
 use Rattle.rows.specs.declared.places.Place.{Place}
 use Rattle.rows.specs.declared.steps.Step.{Step}
 use Rattle.rows.specs.declared.steps.Step.TheVariants.{Auction, Trade, Quote, Average, Theory, TheoryUp, Spread, PreviousSpread, Copy, Previous, Ruling}
-use Rattle.house.specs.Answers.{Answer, answered, by_row, first_found, or_later, or_refused, origin, price_of, row_of, ruled_first, settled}
+use Rattle.house.specs.Answers.{Answer, answered, by_row, first_found, or_later, or_refused, origin, price_of, row_of, ruled_first, path_answer}
 use Rattle.rows.specs.Codes.{window_number}
 use Rattle.house.specs.Found.{Station, average, finds, found, less, quoted}
 use Rattle.house.specs.declared.answers.Settlement.{Settlement}
@@ -139,5 +139,5 @@ module _ (P : ℕ → ℤ → Bool) (ed : Edition) where
       (first_more f g (found_more x y (price_of u) (price_of v) pair (price_more u v h)) 1 (row_of x.series ed))))
 
   -- where stations settle, stations with more figures settle too, at no later a place
-  pub more_answers : (x y : Station) (xs ys : List Station) → AllByRecursion StationLawful (x ∷ xs) → AllByRecursion StationLawful (y ∷ ys) → AllZip StationMore (x ∷ xs) (y ∷ ys) → NoLater (settled P ed x xs) (settled P ed y ys)
+  pub more_answers : (x y : Station) (xs ys : List Station) → AllByRecursion StationLawful (x ∷ xs) → AllByRecursion StationLawful (y ∷ ys) → AllZip StationMore (x ∷ xs) (y ∷ ys) → NoLater (path_answer P ed x xs) (path_answer P ed y ys)
   more_answers x y xs ys l m more = along P ed (LawfulPair StationMore) NoLater answered_more x y xs ys (lawful_pairs StationMore (x ∷ xs) (y ∷ ys) l m more)

@@ -15,7 +15,7 @@ use Rattle.book.specs.declared.faults.BookFault.{BookFault}
 use Rattle.book.proofs.Folds.{every_push, recorded_push}
 use Rattle.book.proofs.Taking.{admitted}
 use Rattle.rows.specs.Families.{family_of}
-use Rattle.house.specs.Calls.{State, by_book, demand, entry_after, entry_answer, entry_passed, listed_terms, may_rule, moved, ruling_after, ruling_answer, ruling_of, rung, then, theory_after, theory_answer, told, with_ruling, with_theory}
+use Rattle.house.specs.Calls.{State, by_book, demand, entry_after, entry_answer, entry_passed, listed_terms, may_rule, moved, ruling_after, ruling_answer, ruling_of, rung, then, theory_after, theory_answer, ok_with, with_ruling, with_theory}
 use Rattle.house.specs.Rolls.{Roll, changed, is_listed, placed, with_listed}
 use Rattle.house.specs.Series.{blank, lawful_ruling, lawful_series, new_series}
 use Rattle.house.specs.declared.faults.HouseFault.{HouseFault}
@@ -31,11 +31,11 @@ use Rattle.house.specs.declared.terms.Terms.{Terms}
 use Rattle.house.proofs.Admitted.{Admitted, listed_have, listed_lawful}
 use Rattle.house.proofs.Slots.{lawful_ruled, lawful_theory}
 use Rattle.runs.specs.Readings.{entries, entries_in, last_ruling, last_theory, listed, phase_after, phase_by, phase_left, ruling_left, stands, terms_by, terms_in, theory_left}
-use Rattle.runs.specs.Runs.{World, is_taken, new_world, next}
+use Rattle.calls.specs.Worlds.{World, is_taken, new_world, next}
 use Rattle.runs.specs.Told.{BookTold, RollTold, Told}
-use Rattle.runs.specs.declared.calls.Call.{Call}
-use Rattle.runs.specs.declared.calls.Call.TheVariants.{List as ListCall, Ring, Enter, SetTheory, SetRuling, Settle}
-use Rattle.runs.proofs.Refusals.{found, listed_ok, told_ok}
+use Rattle.calls.specs.declared.call.Call.{Call}
+use Rattle.calls.specs.declared.call.Call.TheVariants.{List as ListCall, Ring, Enter, SetTheory, SetRuling, Settle}
+use Rattle.calls.proofs.Refusals.{found, listed_ok, ok_with_ok}
 
 pub told_new : (d : Day) (k : ℕ) → Told d k [] (new_world d k)
 told_new d k = record {
@@ -293,23 +293,23 @@ told_call d k ladders lawful xs (ListCall l) w ok t = record {
 told_call d k ladders lawful xs (Ring b) w ok t = record {
   phase =
       let r = rung w.state.phase b in
-      phase_rung w.state.phase b w.state (sym (told_ok tt r) ∙ sym (told_ok _ (told tt r)) ∙ ok) ∙ sym (fold_push phase_left phases.Listing xs (Ring b));
+      phase_rung w.state.phase b w.state (sym (ok_with_ok tt r) ∙ sym (ok_with_ok _ (ok_with tt r)) ∙ ok) ∙ sym (fold_push phase_left phases.Listing xs (Ring b));
   roll = subst (RollTold (xs ++ (Ring b ∷ []))) (sym (bell_leaves (rung w.state.phase b) w.state)) (roll_stays xs (Ring b) w.state.roll refl (λ n o. refl) (λ n q. refl) t.roll);
   book = book_stays d k xs (Ring b) w.book refl t.book;
 }
 told_call d k ladders lawful xs (Enter e) w ok t = record {
   phase = phase_kept xs (Enter e) w.state.phase (λ p. refl) t.phase;
   roll = roll_stays xs (Enter e) w.state.roll refl (λ n o. refl) (λ n q. refl) t.roll;
-  book = told_entry d k lawful xs e w.state w.book (sym (told_ok _ (entry_answer lawful w.book e w.state)) ∙ ok) t.book;
+  book = told_entry d k lawful xs e w.state w.book (sym (ok_with_ok _ (entry_answer lawful w.book e w.state)) ∙ ok) t.book;
 }
 told_call d k ladders lawful xs (SetTheory z value) w ok t = record {
   phase = phase_stays xs (SetTheory z value) (theory_answer z value w.state) _ w.state (λ p. refl) (λ a. refl) t.phase;
-  roll = told_theory xs z value w.state (sym (told_ok _ (theory_answer z value w.state)) ∙ ok) t.roll;
+  roll = told_theory xs z value w.state (sym (ok_with_ok _ (theory_answer z value w.state)) ∙ ok) t.roll;
   book = book_stays d k xs (SetTheory z value) w.book refl t.book;
 }
 told_call d k ladders lawful xs (SetRuling z value first) w ok t = record {
   phase = phase_stays xs (SetRuling z value first) (ruling_answer z value first w.state) _ w.state (λ p. refl) (λ a. refl) t.phase;
-  roll = told_ruling xs z value first w.state (sym (told_ok _ (ruling_answer z value first w.state)) ∙ ok) t.roll;
+  roll = told_ruling xs z value first w.state (sym (ok_with_ok _ (ruling_answer z value first w.state)) ∙ ok) t.roll;
   book = book_stays d k xs (SetRuling z value first) w.book refl t.book;
 }
 told_call d k ladders lawful xs (Settle z edition) w ok t = record {

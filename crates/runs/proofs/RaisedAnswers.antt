@@ -6,8 +6,8 @@ use Rattle.std.proofs.lemmas.Int.{ints}
 use Rattle.std.proofs.lemmas.Bool.{and_parts}
 use Rattle.book.specs.Bounds.{bounded, sides_if}
 use Rattle.book.specs.Entries.{side_lawful}
-use Rattle.book.specs.declared.marks.Sides.{Sides}
-use Rattle.book.specs.declared.marks.Values.{Values}
+use Rattle.book.specs.declared.figures.Sides.{Sides}
+use Rattle.book.specs.declared.figures.Values.{Values}
 use Rattle.book.proofs.Growth.{parts}
 use Rattle.house.proofs.Looked.{series_parts}
 use Rattle.ladders.specs.Fractions.{inside, floor, ceiling}
@@ -23,7 +23,7 @@ use Rattle.rows.specs.declared.places.Edition.{Edition}
 use Rattle.rows.specs.declared.places.Place.{Place}
 use Rattle.rows.specs.declared.steps.Step.{Step}
 use Rattle.rows.specs.declared.steps.Step.TheVariants.{Auction, Trade, Quote, Average, Theory, TheoryUp, Spread, PreviousSpread, Copy, Previous, Ruling}
-use Rattle.house.specs.Answers.{Answer, answered, by_row, first_found, or_later, or_refused, origin, origin_of, price_of, row_of, ruled_first, settled, some_refers}
+use Rattle.house.specs.Answers.{Answer, answered, by_row, first_found, or_later, or_refused, origin, origin_of, price_of, row_of, ruled_first, path_answer, some_refers}
 use Rattle.rows.specs.Codes.{window_number}
 use Rattle.house.specs.Found.{Station, above_theory, average, finds, found, less, middle, nearest_theory, quoted, ruled}
 use Rattle.house.specs.declared.answers.Settlement.{Settlement}
@@ -216,5 +216,5 @@ module _ (P : ℕ → ℤ → Bool) (near : (n : ℕ) (z : ℤ) → Near (P n) z
       (origin_raised x y u v rise h))
 
   -- raised stations settle together, at the same step and place and at no lower price, or are refused from the same series
-  pub raised_answers : (x y : Station) (xs ys : List Station) → AllByRecursion StationLawful (x ∷ xs) → AllByRecursion StationLawful (y ∷ ys) → AllZip StationRaised (x ∷ xs) (y ∷ ys) → NotLower (settled P ed x xs) (settled P ed y ys)
+  pub raised_answers : (x y : Station) (xs ys : List Station) → AllByRecursion StationLawful (x ∷ xs) → AllByRecursion StationLawful (y ∷ ys) → AllZip StationRaised (x ∷ xs) (y ∷ ys) → NotLower (path_answer P ed x xs) (path_answer P ed y ys)
   raised_answers x y xs ys l m rise = along P ed (LawfulPair StationRaised) NotLower answered_raised x y xs ys (lawful_pairs StationRaised (x ∷ xs) (y ∷ ys) l m rise)

@@ -6,17 +6,17 @@ use Rattle.std.specs.List.{AllZip}
 use Rattle.std.proofs.lemmas.Int.{ints}
 use Rattle.std.proofs.lemmas.Bool.{and_parts, true≢false}
 use Rattle.book.specs.Entries.{allowed, kind_lawful, lots_lawful, price_lawful}
-use Rattle.book.specs.Figures.{concerns, empty, entered_in, is_series, latest, marked, settled, traded, values, with_auction}
+use Rattle.book.specs.Figures.{concerns, empty, entered_in, is_series, latest, with_entry, unstamped, traded, values, with_auction}
 use Rattle.book.specs.Records.{every, figures_of}
 use Rattle.book.specs.Windows.{edges, holds}
 use Rattle.book.specs.declared.days.Day.{Day}
 use Rattle.book.specs.declared.entries.Entry.{Entry}
 use Rattle.book.specs.declared.entries.Kind.{Kind}
 use Rattle.book.specs.declared.entries.Kind.TheVariants.{Trade, Auction, Leg, Spread, Quote}
-use Rattle.book.specs.declared.marks.Figures.{Figures}
-use Rattle.book.specs.declared.marks.Last.{Last}
-use Rattle.book.specs.declared.marks.Sides.{Sides}
-use Rattle.book.specs.declared.marks.Values.{Values}
+use Rattle.book.specs.declared.figures.Figures.{Figures}
+use Rattle.book.specs.declared.figures.Last.{Last}
+use Rattle.book.specs.declared.figures.Sides.{Sides}
+use Rattle.book.specs.declared.figures.Values.{Values}
 use Rattle.book.proofs.Ranges.{allowed_kind}
 use Rattle.runs.specs.Kept.{kept, on_path}
 use Rattle.runs.specs.Raised.{EntryRaised, KindRaised, Matched, ValueRaised}
@@ -48,18 +48,18 @@ record FiguresRaised (f g : Figures) : Type 0 where
   lots : f.lots ≡ g.lots
   money : f.money ≤ℤ g.money
 
-settled_matched : {V : Type 0} (R : V → V → Type 0) (o p : Option (Last V)) → LastMatched R o p → Matched R (settled o) (settled p)
-settled_matched R None None h = tt
-settled_matched R None (Some p) h = h
-settled_matched R (Some o) None h = h
-settled_matched R (Some o) (Some p) h = h.1
+unstamped_matched : {V : Type 0} (R : V → V → Type 0) (o p : Option (Last V)) → LastMatched R o p → Matched R (unstamped o) (unstamped p)
+unstamped_matched R None None h = tt
+unstamped_matched R None (Some p) h = h
+unstamped_matched R (Some o) None h = h
+unstamped_matched R (Some o) (Some p) h = h.1
 
 raised_values : (f g : Figures) → FiguresRaised f g → ValuesRaised (values f) (values g)
 raised_values f g r = record {
-  trade = settled_matched ◌≤ℤ◌ f.trade g.trade r.trade;
-  auction = settled_matched ◌≤ℤ◌ f.auction g.auction r.auction;
-  spread = ap settled r.spread;
-  quote = settled_matched SidesRaised f.quote g.quote r.quote;
+  trade = unstamped_matched ◌≤ℤ◌ f.trade g.trade r.trade;
+  auction = unstamped_matched ◌≤ℤ◌ f.auction g.auction r.auction;
+  spread = ap unstamped r.spread;
+  quote = unstamped_matched SidesRaised f.quote g.quote r.quote;
   lots = r.lots;
   money = r.money;
 }
@@ -108,17 +108,17 @@ raised_auction t p q f g rise r = record {
   money = r.money;
 }
 
-raised_marked : (k l : Kind) (t : ℤ) (f g : Figures) → kind_lawful k ≡ true → KindRaised k l → FiguresRaised f g → FiguresRaised (marked k t f) (marked l t g)
-raised_marked (Trade p n) l t f g h (q, rise, is) r = subst (λ (j : Kind). FiguresRaised (traded t p n f) (marked j t g)) (sym is) (raised_traded t p q n f g h rise r)
-raised_marked (Auction p n) l t f g h (q, rise, is) r =
-    subst (λ (j : Kind). FiguresRaised (marked (Auction p n) t f) (marked j t g)) (sym is)
+raised_with_entry : (k l : Kind) (t : ℤ) (f g : Figures) → kind_lawful k ≡ true → KindRaised k l → FiguresRaised f g → FiguresRaised (with_entry k t f) (with_entry l t g)
+raised_with_entry (Trade p n) l t f g h (q, rise, is) r = subst (λ (j : Kind). FiguresRaised (traded t p n f) (with_entry j t g)) (sym is) (raised_traded t p q n f g h rise r)
+raised_with_entry (Auction p n) l t f g h (q, rise, is) r =
+    subst (λ (j : Kind). FiguresRaised (with_entry (Auction p n) t f) (with_entry j t g)) (sym is)
     (raised_traded t p q n (with_auction t p f) (with_auction t q g) h rise (raised_auction t p q f g rise r))
-raised_marked (Leg p n) l t f g h (q, rise, is) r = subst (λ (j : Kind). FiguresRaised f (marked j t g)) (sym is) r
-raised_marked (Spread v) l t f g h is r =
-    subst (λ (j : Kind). FiguresRaised (marked (Spread v) t f) (marked j t g)) (sym is)
+raised_with_entry (Leg p n) l t f g h (q, rise, is) r = subst (λ (j : Kind). FiguresRaised f (with_entry j t g)) (sym is) r
+raised_with_entry (Spread v) l t f g h is r =
+    subst (λ (j : Kind). FiguresRaised (with_entry (Spread v) t f) (with_entry j t g)) (sym is)
     (record { trade = r.trade; auction = r.auction; spread = ap (λ o. latest o t v) r.spread; quote = r.quote; lots = r.lots; money = r.money })
-raised_marked (Quote b a) l t f g h (c, z, bid, ask, is) r =
-    subst (λ (j : Kind). FiguresRaised (marked (Quote b a) t f) (marked j t g)) (sym is)
+raised_with_entry (Quote b a) l t f g h (c, z, bid, ask, is) r =
+    subst (λ (j : Kind). FiguresRaised (with_entry (Quote b a) t f) (with_entry j t g)) (sym is)
     (record {
       trade = r.trade;
       auction = r.auction;
@@ -131,11 +131,11 @@ raised_marked (Quote b a) l t f g h (c, z, bid, ask, is) r =
 raised_entered : (s : ℕ) (x : ℤ × ℤ) (f g : Figures) (e e' : Entry) → kind_lawful e.kind ≡ true → EntryRaised e e' → FiguresRaised f g → FiguresRaised (entered_in s x f e) (entered_in s x g e')
 raised_entered s x f g e e' h rise r =
     subst (λ (k : Figures). FiguresRaised (entered_in s x f e) k)
-    (λ i. cond (is_series s (rise.series i) && holds x (rise.stamp i)) (marked e'.kind (rise.stamp i) g) g)
+    (λ i. cond (is_series s (rise.series i) && holds x (rise.stamp i)) (with_entry e'.kind (rise.stamp i) g) g)
     (by (concerns s x e))
   where
-    by : (b : Bool) → FiguresRaised (cond b (marked e.kind e.stamp f) f) (cond b (marked e'.kind e.stamp g) g)
-    by true = raised_marked e.kind e'.kind e.stamp f g h rise.kind r
+    by : (b : Bool) → FiguresRaised (cond b (with_entry e.kind e.stamp f) f) (cond b (with_entry e'.kind e.stamp g) g)
+    by true = raised_with_entry e.kind e'.kind e.stamp f g h rise.kind r
     by false = r
 
 -- ---- all entries

@@ -14,56 +14,57 @@ use Rattle.runs.specs.Added.{Among}
 use Rattle.runs.specs.Kept.{kept}
 use Rattle.runs.specs.Raised.{EntryRaised, SeriesRaised}
 use Rattle.runs.specs.Readings.{entries, listed, phase_after, stands}
-use Rattle.runs.specs.Runs.{World, after_run, new_world, taken, world}
-use Rattle.runs.specs.declared.calls.Call.{Call}
+use Rattle.calls.specs.Worlds.{World, new_world, world}
+use Rattle.runs.specs.Runs.{after_run, calls_taken}
+use Rattle.calls.specs.declared.call.Call.{Call}
 use Rattle.runs.specs.declared.comparing.Run as runs
 
 -- calls made on a house and a book, over so many ladders with these lawful prices
-pub record Run : Type 0 where
+pub record RunMeaning : Type 0 where
   pub ladders : ℕ
   pub lawful : ℕ → ℤ → Bool
   pub start : World
   pub calls : List Call
 
 -- on a house over a ladder set with this count and these lawful prices, and a book of this meaning
-abbrev pub run_of : {L : Type 0} {bound : _} → (L → ℕ) → (L → ℕ → ℤ → Bool) → House L bound → Ledger → List Call → Run
+abbrev pub run_of : {L : Type 0} {bound : _} → (L → ℕ) → (L → ℕ → ℤ → Bool) → House L bound → Ledger → List Call → RunMeaning
 run_of size lawful h m calls = record { ladders = size h.set; lawful = lawful h.set; start = world h m; calls = calls }
 
 -- as it is handed to a call
-abbrev pub run_in : {L B : Type 0} {bound : _} → (L → ℕ) → (L → ℕ → ℤ → Bool) → (B → Ledger) → runs.Run L B bound → Run
+abbrev pub run_in : {L B : Type 0} {bound : _} → (L → ℕ) → (L → ℕ → ℤ → Bool) → (B → Ledger) → runs.Run L B bound → RunMeaning
 run_in size lawful meaning r = run_of size lawful r.house.now (meaning r.book.now) r.calls.now
 
 -- what stands in the end, and the calls that were not refused
-abbrev pub end : Run → World
+abbrev pub end : RunMeaning → World
 end r = after_run r.ladders r.lawful r.calls r.start
 
-abbrev pub taken_in : Run → List Call
-taken_in r = taken r.ladders r.lawful r.calls r.start
+abbrev pub calls_taken_in : RunMeaning → List Call
+calls_taken_in r = calls_taken r.ladders r.lawful r.calls r.start
 
 -- the answer to a question in the end
-abbrev pub answer_in : Run → ℤ → Edition → Result Settlement HouseFault
+abbrev pub answer_in : RunMeaning → ℤ → Edition → Result Settlement HouseFault
 answer_in r n ed = settle_answer r.lawful ed n (end r).state (end r).book
 
 -- a new house and an empty book of the day
-abbrev pub new_run : {L : Type 0} → (L → ℕ) → (L → ℕ → ℤ → Bool) → L → Day → ℕ → List Call → Run
+abbrev pub new_run : {L : Type 0} → (L → ℕ) → (L → ℕ → ℤ → Bool) → L → Day → ℕ → List Call → RunMeaning
 new_run size lawful set d k calls = record { ladders = size set; lawful = lawful set; start = new_world d k; calls = calls }
 
 -- ---- which runs can be compared
 
--- by the calls taken the series is listed and the edition open
-pub record Asked (r : Run) (n : ℤ) (ed : Edition) : Type 0 where
-  pub listed : is_listed (length (listed (taken_in r))) n ≡ true
-  pub opened : is_open (phase_after (taken_in r)) ed ≡ true
+-- by the calls calls_taken the series is listed and the edition open
+pub record MayAskAfter (r : RunMeaning) (n : ℤ) (ed : Edition) : Type 0 where
+  pub listed : is_listed (length (listed (calls_taken_in r))) n ≡ true
+  pub opened : is_open (phase_after (calls_taken_in r)) ed ≡ true
 
 -- one ladder set, by its meaning, and a question that may be asked in both
-pub record Alike (a b : Run) (n : ℤ) (ed : Edition) : Type 0 where
+pub record Alike (a b : RunMeaning) (n : ℤ) (ed : Edition) : Type 0 where
   pub ladders : a.ladders ≡ b.ladders
   pub prices : (l : ℕ) (v : ℤ) → a.lawful l v ≡ b.lawful l v
-  pub first : Asked a n ed
-  pub second : Asked b n ed
+  pub first : MayAskAfter a n ed
+  pub second : MayAskAfter b n ed
 
 -- and both began with a new house and an empty book of one day, of whatever capacity
-pub record Comparable (a b : Run) (n : ℤ) (ed : Edition) : Type 0 where
+pub record Comparable (a b : RunMeaning) (n : ℤ) (ed : Edition) : Type 0 where
   pub alike : Alike a b n ed
   pub day : Day
   pub capacity : ℕ
@@ -71,13 +72,13 @@ pub record Comparable (a b : Run) (n : ℤ) (ed : Edition) : Type 0 where
   pub new : a.start ≡ new_world day capacity
   pub other_new : b.start ≡ new_world day other_capacity
 
--- ---- of two lists of calls taken
+-- ---- of two lists of calls calls_taken
 
 -- the path of the series numbered n
 abbrev pub path_of : List Call → ℕ → List ℕ
 path_of calls n = path (stands calls) n
 
--- the same terms and supplied values stand on the path, and the same entries were taken there in order, legs aside
+-- the same terms and supplied values stand on the path, and the same entries were calls_taken there in order, legs aside
 pub record SameEvidence (n : ℕ) (xs ys : List Call) : Type 0 where
   pub numbers : path_of xs n ≡ path_of ys n
   pub terms : AllByRecursion (λ k. stands xs k ≡ stands ys k) (path_of xs n)
@@ -114,19 +115,19 @@ NoLater (Err o) b = Unit {0}
 -- ---- the laws, under a premise on both runs
 
 -- the same evidence gives the same answer
-abbrev pub SameLaw : Type 0 → Run → Run → ℤ → Result Settlement HouseFault → Result Settlement HouseFault → Type 0
-SameLaw Premise a b n x y = Premise → SameEvidence (unsigned_abs n) (taken_in a) (taken_in b) → x ≡ y
+abbrev pub SameLaw : Type 0 → RunMeaning → RunMeaning → ℤ → Result Settlement HouseFault → Result Settlement HouseFault → Type 0
+SameLaw Premise a b n x y = Premise → SameEvidence (unsigned_abs n) (calls_taken_in a) (calls_taken_in b) → x ≡ y
 
 -- raised prices leave step, place and origin, and lower no price
-abbrev pub RaisedLaw : Type 0 → Run → Run → ℤ → Result Settlement HouseFault → Result Settlement HouseFault → Type 0
-RaisedLaw Premise a b n x y = Premise → RaisedEvidence (unsigned_abs n) (taken_in a) (taken_in b) → NotLower x y
+abbrev pub RaisedLaw : Type 0 → RunMeaning → RunMeaning → ℤ → Result Settlement HouseFault → Result Settlement HouseFault → Type 0
+RaisedLaw Premise a b n x y = Premise → RaisedEvidence (unsigned_abs n) (calls_taken_in a) (calls_taken_in b) → NotLower x y
 
 -- with more evidence what settled settles, no later in its row
-abbrev pub MoreLaw : Type 0 → Run → Run → ℤ → Result Settlement HouseFault → Result Settlement HouseFault → Type 0
-MoreLaw Premise a b n x y = Premise → MoreEvidence (unsigned_abs n) (taken_in a) (taken_in b) → NoLater x y
+abbrev pub MoreLaw : Type 0 → RunMeaning → RunMeaning → ℤ → Result Settlement HouseFault → Result Settlement HouseFault → Type 0
+MoreLaw Premise a b n x y = Premise → MoreEvidence (unsigned_abs n) (calls_taken_in a) (calls_taken_in b) → NoLater x y
 
 -- all three, and that the answers are those of the runs
-pub record Laws (Premise : Type 0) (a b : Run) (n : ℤ) (ed : Edition) (x y : Result Settlement HouseFault) : Type 0 where
+pub record Laws (Premise : Type 0) (a b : RunMeaning) (n : ℤ) (ed : Edition) (x y : Result Settlement HouseFault) : Type 0 where
   pub one : x ≡ answer_in a n ed
   pub other : y ≡ answer_in b n ed
   pub same : SameLaw Premise a b n x y

@@ -16,8 +16,8 @@ use Rattle.house.specs.declared.series.Ruling.{Ruling}
 use Rattle.house.specs.declared.series.Series.{Series}
 use Rattle.house.specs.declared.terms.Listing.{Listing}
 use Rattle.house.specs.declared.terms.Terms.{Terms}
-use Rattle.runs.specs.declared.calls.Call.{Call}
-use Rattle.runs.specs.declared.calls.Call.TheVariants.{List as ListCall, Ring, Enter, SetTheory, SetRuling, Settle}
+use Rattle.calls.specs.declared.call.Call.{Call}
+use Rattle.calls.specs.declared.call.Call.TheVariants.{List as ListCall, Ring, Enter, SetTheory, SetRuling, Settle}
 
 -- ---- the phase
 

@@ -1,69 +1,13 @@
--- Runs of calls: what each call answers, and what the house and the book hold afterwards.
-use Rattle.std.specs.Prelude.{ℕ, Bool, cond, List, [], ◌∷◌, ℤ, is_ok, Ok, Err, fold, Result}
-use Rattle.book.specs.Ledgers.{Ledger, fresh}
-use Rattle.book.specs.declared.days.Day.{Day}
-use Rattle.house.specs.Calls.{State, bell_after, bell_answer, entry_after, entry_answer, list_after, list_answer, new_state, ruling_after, ruling_answer, theory_after, theory_answer, told}
-use Rattle.house.specs.Houses.{state}
-use Rattle.house.specs.Questions.{settle_answer}
-use Rattle.house.specs.declared.answers.Settlement.{Settlement}
-use Rattle.house.specs.declared.faults.HouseFault.{HouseFault}
-use Rattle.house.specs.declared.houses.House.{House}
-use Rattle.runs.specs.declared.calls.Call.{Call}
-use Rattle.runs.specs.declared.calls.Call.TheVariants.{List as ListCall, Ring, Enter, SetTheory, SetRuling, Settle}
-use Rattle.runs.specs.declared.calls.Reply.{Reply}
-use Rattle.runs.specs.declared.calls.Reply.TheVariants.{Done, Listed, Settled}
-
--- a house and its book, by what they mean
-pub record World : Type 0 where
-  pub state : State
-  pub book : Ledger
-
-abbrev pub world : {L : Type 0} {bound : _} → House L bound → Ledger → World
-world h m = record { state = state h; book = m }
-
--- a new house and a new book
-abbrev pub new_world : Day → ℕ → World
-new_world d k = record { state = new_state; book = fresh d k }
-
--- ---- one call, over a set of so many ladders with these lawful prices on each
-
--- the number of the series listed, as a reply
-abbrev pub as_listed : Result ℕ HouseFault → Result Reply HouseFault
-as_listed (Ok n) = Ok (Listed n)
-as_listed (Err fault) = Err fault
-
--- the settlement of the series asked for, as a reply
-abbrev pub as_settled : ℤ → Result Settlement HouseFault → Result Reply HouseFault
-as_settled n (Ok s) = Ok (Settled n s)
-as_settled n (Err fault) = Err fault
-
-abbrev pub reply : ℕ → (ℕ → ℤ → Bool) → Call → World → Result Reply HouseFault
-reply ladders lawful (ListCall t) w = as_listed (list_answer ladders t w.state)
-reply ladders lawful (Ring b) w = told Done (bell_answer b w.state)
-reply ladders lawful (Enter e) w = told Done (entry_answer lawful w.book e w.state)
-reply ladders lawful (SetTheory n value) w = told Done (theory_answer n value w.state)
-reply ladders lawful (SetRuling n value first) w = told Done (ruling_answer n value first w.state)
-reply ladders lawful (Settle n edition) w = as_settled n (settle_answer lawful edition n w.state w.book)
-
--- an entry is for the book, a question changes nothing, and all else is for the house
-abbrev pub next : ℕ → (ℕ → ℤ → Bool) → Call → World → World
-next ladders lawful (ListCall t) w = record { state = list_after ladders t w.state; book = w.book }
-next ladders lawful (Ring b) w = record { state = bell_after b w.state; book = w.book }
-next ladders lawful (Enter e) w = record { state = w.state; book = entry_after lawful e w.state w.book }
-next ladders lawful (SetTheory n value) w = record { state = theory_after n value w.state; book = w.book }
-next ladders lawful (SetRuling n value first) w = record { state = ruling_after n value first w.state; book = w.book }
-next ladders lawful (Settle n edition) w = w
-
-abbrev pub is_taken : ℕ → (ℕ → ℤ → Bool) → Call → World → Bool
-is_taken ladders lawful c w = is_ok (reply ladders lawful c w)
-
--- ---- one call after the other
+-- Runs: one call after the other.
+use Rattle.std.specs.Prelude.{ℕ, Bool, cond, List, [], ◌∷◌, ℤ, fold}
+use Rattle.calls.specs.Worlds.{World, is_taken, next}
+use Rattle.calls.specs.declared.call.Call.{Call}
 
 abbrev pub after_run : ℕ → (ℕ → ℤ → Bool) → List Call → World → World
 after_run ladders lawful calls w = fold (λ v c. next ladders lawful c v) w calls
 
 -- the calls that were not refused, in their order
-abbrev pub taken : ℕ → (ℕ → ℤ → Bool) → List Call → World → List Call
-taken ladders lawful [] w = []
-taken ladders lawful (c ∷ calls) w =
-    cond (is_taken ladders lawful c w) (c ∷ taken ladders lawful calls (next ladders lawful c w)) (taken ladders lawful calls (next ladders lawful c w))
+abbrev pub calls_taken : ℕ → (ℕ → ℤ → Bool) → List Call → World → List Call
+calls_taken ladders lawful [] w = []
+calls_taken ladders lawful (c ∷ calls) w =
+    cond (is_taken ladders lawful c w) (c ∷ calls_taken ladders lawful calls (next ladders lawful c w)) (calls_taken ladders lawful calls (next ladders lawful c w))

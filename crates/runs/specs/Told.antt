@@ -7,8 +7,8 @@ use Rattle.book.specs.declared.days.Day.{Day}
 use Rattle.house.specs.Rolls.{Roll}
 use Rattle.house.specs.Series.{blank, lawful_series}
 use Rattle.runs.specs.Readings.{entries, listed, phase_after, stands}
-use Rattle.runs.specs.Runs.{World}
-use Rattle.runs.specs.declared.calls.Call.{Call}
+use Rattle.calls.specs.Worlds.{World}
+use Rattle.calls.specs.declared.call.Call.{Call}
 
 -- the listed series: as many as there are listings, each with the terms of its listing and what was last supplied
 pub record RollTold (xs : List Call) (r : Roll) : Type 0 where

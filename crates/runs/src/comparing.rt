@@ -1,7 +1,7 @@
 // Two runs, whatever the makes of the ladder sets and of the books, and the same question asked after each.
 ghost use Rattle.std.specs.Prelude.{◌≡◌, min, length};
 ghost use Rattle.runs.specs.Laws.{Alike, Comparable, Laws, answer_in, end, new_run, run_in};
-ghost use Rattle.runs.specs.Runs.{world};
+ghost use Rattle.calls.specs.Worlds.{world};
 
 use crate::calls::Call;
 use crate::performing::run;

@@ -1,6 +1,5 @@
 // Runs of calls on a house and its book, and what stands after them.
 #![tactic(auto)]
 
-pub mod calls;
 pub mod comparing;
-pub mod performing;
+pub mod running;

@@ -3,9 +3,9 @@ use Rattle.std.proofs.Common.{◌≡◌, ℕ, ◌<◌, List, [], ◌∷◌, ◌+
 use Rattle.std.specs.List.{AllZip}
 use Rattle.std.proofs.lemmas.Bool.{cases_lt}
 use Rattle.std.proofs.lemmas.List.{append_assoc, length-take-le}
-use Rattle.runs.specs.declared.calls.Reply.{Reply}
+use Rattle.calls.specs.declared.call.Reply.{Reply}
 use Rattle.lines.specs.Spelled.{Parsed}
-use Rattle.lines.specs.declared.calls.LineCall.{LineCall}
+use Rattle.lines.specs.declared.line_calls.LineCall.{LineCall}
 use Rattle.lines.specs.declared.faults.NotRead.{NotRead}
 use Rattle.lines.proofs.Writings.{one_reading}
 use Rattle.lines.proofs.Neat.{written_short}

@@ -2,7 +2,7 @@
 use Rattle.std.specs.Prelude.{◌≡◌, ℕ, List, [], ◌∷◌, ◌++◌, fold, Result}
 use Rattle.std.specs.List.{AllZip}
 use Rattle.lines.specs.Spelled.{Parsed}
-use Rattle.lines.specs.declared.calls.LineCall.{LineCall}
+use Rattle.lines.specs.declared.line_calls.LineCall.{LineCall}
 use Rattle.lines.specs.declared.faults.NotRead.{NotRead}
 use Rattle.answers.specs.Texts.{answer_text}
 use Rattle.desk.specs.Desks.{Standing, line_after, line_answer}

@@ -3,7 +3,7 @@ ghost use Rattle.std.specs.Prelude.{◌≡◌, fold};
 ghost use Rattle.book.specs.Figures.{empty, entered_if};
 
 use book::entries::Entry;
-use book::marks::Figures;
+use book::figures::Figures;
 
 // The figures of a series and of a window with these edges, from every entry in the order taken.
 pub(crate) fn scan(entries: &[Entry], series: u8, edges: (i64, i64)) -> Figures

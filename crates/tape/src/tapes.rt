@@ -11,7 +11,7 @@ use book::days::Day;
 use book::entries::{Entry, Kind};
 use book::faults::BookFault;
 use book::lawful::LawfulDay;
-use book::marks::Values;
+use book::figures::Values;
 use book::windows::edges;
 
 // What may fill the places that a tape is lent: it reads none of them before it has stored an entry there.

@@ -9,7 +9,7 @@ mod tests {
     use book::entries::{Entry, Kind};
     use book::faults::BookFault;
     use book::lawful::LawfulDay;
-    use book::marks::Sides;
+    use book::figures::Sides;
     use book::windows::edges;
     use std::process::Abort;
     use std::test::Fail;

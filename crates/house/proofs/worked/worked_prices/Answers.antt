@@ -28,5 +28,5 @@ returns c = record {
     ),
   );
   refused = refl;
-  told = (refl, refl);
+  number = (refl, refl);
 }

@@ -1,6 +1,6 @@
 use Rattle.std.proofs.Common.{◌≡◌, Result, IfErr, sym, subst}
-use Rattle.runs.specs.declared.calls.Reply.{Reply}
-use Rattle.lines.specs.declared.calls.LineCall.TheVariants as lines
+use Rattle.calls.specs.declared.call.Reply.{Reply}
+use Rattle.lines.specs.declared.line_calls.LineCall.TheVariants as lines
 use Rattle.answers.specs.declared.faults.LineFault.{LineFault}
 use Rattle.desk.specs.Desks.{Standing, call_answer, standing}
 use Rattle.desk.proofs.Handing.{refusal_stays}

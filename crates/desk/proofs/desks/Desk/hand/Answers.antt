@@ -1,6 +1,6 @@
 use Rattle.std.proofs.Common.{ap, ◌∙◌}
 use Rattle.std.specs.Option.{option_map}
-use Rattle.lines.specs.declared.calls.LineCall.TheVariants as lines
+use Rattle.lines.specs.declared.line_calls.LineCall.TheVariants as lines
 use Rattle.desk.specs.Desks.{begun_by, desk_after}
 use Rattle.desk.proofs.Handing.{handed}
 use Rattle.desk.proofs.desks.Desk.hand.Goals as goal

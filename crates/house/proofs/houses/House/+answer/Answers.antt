@@ -1,5 +1,5 @@
 use Rattle.std.proofs.Common.{◌≡◌, ℕ, None, Some, Option, sym, ap, ◌∙◌}
-use Rattle.house.specs.Answers.{answered, settled_at, station_of}
+use Rattle.house.specs.Answers.{answered, answer_at, station_of}
 use Rattle.house.specs.Houses.{state}
 use Rattle.house.specs.declared.series.Series.{Series}
 use Rattle.house.proofs.Paths.{of_reference, settled_with}
@@ -17,7 +17,7 @@ returns-clause-value g t c =
     let n = c.args.number in
     let here = c.get-series.ensures.value in
     let same = ap (λ (x : Series). answered P ed (station_of n x m) c.match-series.reference) here in
-    let by = λ (o : Option ℕ) (told : c.match-series.reference ≡ of_reference (settled_at P ed s m) o) (there : c.get-series.result.terms.reference ≡ o).
+    let by = λ (o : Option ℕ) (told : c.match-series.reference ≡ of_reference (answer_at P ed s m) o) (there : c.get-series.result.terms.reference ≡ o).
     (ap (answered P ed (station_of n (s.roll.series n) m)) told
     ∙ sym (settled_with P ed s m h.listed.lawful n o (ap (λ (x : Series). x.terms.reference) (sym here) ∙ there)))
     in

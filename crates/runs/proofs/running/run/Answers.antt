@@ -1,8 +1,9 @@
 use Rattle.std.proofs.Common.{ap, ◌∙◌}
 use Rattle.std.proofs.lemmas.List.{take_all}
-use Rattle.runs.specs.Runs.{after_run, world}
+use Rattle.calls.specs.Worlds.{world}
+use Rattle.runs.specs.Runs.{after_run}
 use Rattle.runs.proofs.ToldRuns.{told_from_new}
-use Rattle.runs.proofs.performing.run.Goals as goal
+use Rattle.runs.proofs.running.run.Goals as goal
 
 pub returns-clause-told : goal.returns-clause-told
 returns-clause-told g c =

@@ -1,6 +1,6 @@
 // What a line says.
 use book::days::Day;
-use runs::calls::Call;
+use calls::call::Call;
 
 #[derive(Clone, Copy, PartialEq, Eq, Debug)]
 pub enum LineCall {

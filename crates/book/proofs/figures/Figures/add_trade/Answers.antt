@@ -2,7 +2,7 @@ use Rattle.std.proofs.Common.{◌≡◌, ◌+ℤ◌, ap, ◌∙◌, arith, w32, 
 use Rattle.std.proofs.lemmas.Int.{ints, to_z-of_z}
 use Rattle.book.specs.Figures.{latest}
 use Rattle.book.proofs.Limits.{lots_bound, room_for}
-use Rattle.book.proofs.marks.Figures.add_trade.Goals as goal
+use Rattle.book.proofs.figures.Figures.add_trade.Goals as goal
 
 pub returns : goal.returns
 returns c =

@@ -1,10 +1,8 @@
-// Calls handed to a house and its book.
-ghost use Rattle.std.specs.Prelude.{◌≡◌, ℕ, IfErr};
-ghost use Rattle.book.specs.declared.days.Day.{Day};
-ghost use Rattle.runs.specs.Runs.{after_run, new_world, next, reply, taken, world};
-ghost use Rattle.runs.specs.Told.{Told};
+// One call made on a house and its book.
+ghost use Rattle.std.specs.Prelude.{◌≡◌, IfErr};
+ghost use Rattle.calls.specs.Worlds.{next, reply, world};
 
-use crate::calls::{Call, Reply};
+use crate::call::{Call, Reply};
 use book::books::Book;
 use house::faults::HouseFault;
 use house::houses::House;
@@ -38,17 +36,5 @@ pub fn perform<L: LadderSet, B: Book>(
             let settlement = house.settle(book, series, edition)?;
             Ok(Reply::Settled { series, settlement })
         }
-    }
-}
-
-// Makes the calls in their order, whether or not one is refused. After a run from a new house and a new book, what they hold
-// is told by the calls taken.
-pub fn run<L: LadderSet, B: Book>(house: &mut House<L>, book: &mut B, calls: &[Call])
-    ensures after { world house.new (B.Book.meaning book.new) ≡ after_run (L.LadderSet.size house.old.set) (L.LadderSet.lawful house.old.set) calls.now (world house.old (B.Book.meaning book.old)) }
-    ensures set { house.new.set ≡ house.old.set }
-    ensures told { (d : Day) (k : ℕ) → world house.old (B.Book.meaning book.old) ≡ new_world d k → Told d k (taken (L.LadderSet.size house.old.set) (L.LadderSet.lawful house.old.set) calls.now (world house.old (B.Book.meaning book.old))) (world house.new (B.Book.meaning book.new)) }
-{
-    for call in calls {
-        let _ = perform(house, book, call);
     }
 }

@@ -1,19 +1,19 @@
-// Entries taken into a book, one after the other.
+// Entries entries_taken into a book, one after the other.
 ghost use Rattle.std.specs.Prelude.{◌≡◌, ℕ, length};
 ghost use Rattle.book.specs.Evidence.{Evidence};
 ghost use Rattle.book.specs.Ledgers.{fresh};
-ghost use Rattle.book.specs.Takings.{after_all, taken};
+ghost use Rattle.book.specs.Takings.{after_all, entries_taken};
 ghost use Rattle.book.specs.declared.days.Day.{Day};
 
 use crate::books::Book;
 use crate::entries::Entry;
 
-// Hands the entries to the book in their order, and tells how many it took. What a new book then answers is told by the
-// entries taken.
+// Hands the entries to the book in their order, and tells how many it took. What a new book then answers is evidence_of_taken by the
+// entries entries_taken.
 pub fn take_all<B: Book>(book: &mut B, entries: &[Entry]) -> usize
-    ensures count { result ≡ length (taken (B.meaning book.old) entries.now) }
+    ensures count { result ≡ length (entries_taken (B.meaning book.old) entries.now) }
     ensures after { B.meaning book.new ≡ after_all (B.meaning book.old) entries.now }
-    ensures evidence { (d : Day) (k : ℕ) → B.meaning book.old ≡ fresh d k → Evidence (B.meaning book.new) (taken (fresh d k) entries.now) }
+    ensures evidence { (d : Day) (k : ℕ) → B.meaning book.old ≡ fresh d k → Evidence (B.meaning book.new) (entries_taken (fresh d k) entries.now) }
 {
     // A loop, since taking has an effect, which a filter that is counted would hide.
     let mut count = 0;
@@ -27,7 +27,7 @@ pub fn take_all<B: Book>(book: &mut B, entries: &[Entry]) -> usize
 
 // Hands the same entries to two books of any make. Where they meant the same before, they mean the same afterwards.
 pub fn take_both<A: Book, B: Book>(one: &mut A, other: &mut B, entries: &[Entry]) -> (usize, usize)
-    ensures counts { (result.0 ≡ length (taken (A.Book.meaning one.old) entries.now)) × (result.1 ≡ length (taken (B.Book.meaning other.old) entries.now)) }
+    ensures counts { (result.0 ≡ length (entries_taken (A.Book.meaning one.old) entries.now)) × (result.1 ≡ length (entries_taken (B.Book.meaning other.old) entries.now)) }
     ensures first { A.Book.meaning one.new ≡ after_all (A.Book.meaning one.old) entries.now }
     ensures second { B.Book.meaning other.new ≡ after_all (B.Book.meaning other.old) entries.now }
     ensures agree { A.Book.meaning one.old ≡ B.Book.meaning other.old → A.Book.meaning one.new ≡ B.Book.meaning other.new }

@@ -1,6 +1,7 @@
 use Rattle.std.proofs.Common.{◌≡◌, take}
-use Rattle.runs.specs.Runs.{after_run, world}
-use Rattle.runs.proofs.performing.run.Given as goal
+use Rattle.calls.specs.Worlds.{world}
+use Rattle.runs.specs.Runs.{after_run}
+use Rattle.runs.proofs.running.run.Given as goal
 
 -- the calls so far were made, over the same set
 abbrev pub invariant-loop-call : goal.invariant-loop-call

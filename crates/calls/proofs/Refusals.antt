@@ -2,19 +2,19 @@
 use Rattle.std.proofs.Common.{◌≡◌, ℕ, Bool, true, false, ℤ, is_ok, Ok, Err, Result, sym, refl, ap, ◌∙◌}
 use Rattle.std.proofs.lemmas.Bool.{true≢false}
 use Rattle.book.specs.Ledgers.{Ledger, grown}
-use Rattle.house.specs.Calls.{State, entry_answer, listed_terms, moved, ruling_answer, rung, theory_answer, told}
+use Rattle.house.specs.Calls.{State, entry_answer, listed_terms, moved, ruling_answer, rung, theory_answer, ok_with}
 use Rattle.house.specs.declared.faults.HouseFault.{HouseFault}
-use Rattle.runs.specs.Runs.{World, as_listed, is_taken, next}
+use Rattle.calls.specs.Worlds.{World, as_listed, is_taken, next}
 use Rattle.runs.specs.declared.calls.Call.{Call}
 use Rattle.runs.specs.declared.calls.Call.TheVariants.{List as ListCall, Ring, Enter, SetTheory, SetRuling, Settle}
 
 -- ---- an answer wrapped up is refused where the answer is
 
-pub told_ok : {A C : Type 0} (c : C) (r : Result A HouseFault) → is_ok (told c r) ≡ is_ok r
-told_ok c (Ok a) = refl
-told_ok c (Err f) = refl
+pub ok_with_ok : {A C : Type 0} (c : C) (r : Result A HouseFault) → is_ok (ok_with c r) ≡ is_ok r
+ok_with_ok c (Ok a) = refl
+ok_with_ok c (Err f) = refl
 
-pub listed_ok : {A : Type 0} (n : ℕ) (r : Result A HouseFault) → is_ok (as_listed (told n r)) ≡ is_ok r
+pub listed_ok : {A : Type 0} (n : ℕ) (r : Result A HouseFault) → is_ok (as_listed (ok_with n r)) ≡ is_ok r
 listed_ok n (Ok a) = refl
 listed_ok n (Err f) = refl
 
@@ -35,14 +35,14 @@ refused_stays ladders lawful (ListCall t) w h =
     ap (λ (s : State). record { state = s; book = w.book }) (stays r _ w.state (sym (listed_ok w.state.roll.count r) ∙ h))
 refused_stays ladders lawful (Ring b) w h =
     let r = rung w.state.phase b in
-    ap (λ (s : State). record { state = s; book = w.book }) (stays r _ w.state (sym (told_ok tt r) ∙ sym (told_ok _ (told tt r)) ∙ h))
+    ap (λ (s : State). record { state = s; book = w.book }) (stays r _ w.state (sym (ok_with_ok tt r) ∙ sym (ok_with_ok _ (ok_with tt r)) ∙ h))
 refused_stays ladders lawful (Enter e) w h =
     let r = entry_answer lawful w.book e w.state in
-    ap (λ (m : Ledger). record { state = w.state; book = m }) (stays r (λ _. grown w.book e) w.book (sym (told_ok _ r) ∙ h))
+    ap (λ (m : Ledger). record { state = w.state; book = m }) (stays r (λ _. grown w.book e) w.book (sym (ok_with_ok _ r) ∙ h))
 refused_stays ladders lawful (SetTheory n value) w h =
     let r = theory_answer n value w.state in
-    ap (λ (s : State). record { state = s; book = w.book }) (stays r _ w.state (sym (told_ok _ r) ∙ h))
+    ap (λ (s : State). record { state = s; book = w.book }) (stays r _ w.state (sym (ok_with_ok _ r) ∙ h))
 refused_stays ladders lawful (SetRuling n value first) w h =
     let r = ruling_answer n value first w.state in
-    ap (λ (s : State). record { state = s; book = w.book }) (stays r _ w.state (sym (told_ok _ r) ∙ h))
+    ap (λ (s : State). record { state = s; book = w.book }) (stays r _ w.state (sym (ok_with_ok _ r) ∙ h))
 refused_stays ladders lawful (Settle n edition) w h = refl

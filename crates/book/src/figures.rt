@@ -1,7 +1,7 @@
 // The figures of one series and window.
 ghost use Rattle.std.specs.Prelude.{◌≡◌, ◌≤◌, true, false, ◌*ℤ◌, MatchOption, unsigned_abs};
 ghost use Rattle.book.specs.Entries.{kind_lawful, lots_lawful, price_lawful, side_lawful};
-ghost use Rattle.book.specs.Figures.{empty, entered_if, latest, marked, marked_in, roomy, settled, sound, stamp_small, traded, values};
+ghost use Rattle.book.specs.Figures.{empty, entered_if, latest, with_entry, entered_sound, roomy, unstamped, sound, stamp_small, traded, values};
 
 use crate::entries::{Entry, Kind, is_kind_lawful};
 use crate::lawful::DAY_END;
@@ -60,8 +60,8 @@ fn latest<V: Copy>(old: Option<Last<V>>, stamp: i32, value: V) -> Option<Last<V>
 }
 
 // A last figure without its stamp.
-fn settled<V: Copy>(last: Option<Last<V>>) -> Option<V>
-    ensures { result ≡ settled last }
+fn unstamped<V: Copy>(last: Option<Last<V>>) -> Option<V>
+    ensures { result ≡ unstamped last }
 {
     last.map(|l| l.value)
 }
@@ -133,10 +133,10 @@ impl Figures {
         ensures { result ≡ values self.now }
     {
         Values {
-            trade: settled(self.trade),
-            auction: settled(self.auction),
-            spread: settled(self.spread),
-            quote: settled(self.quote),
+            trade: unstamped(self.trade),
+            auction: unstamped(self.auction),
+            spread: unstamped(self.spread),
+            quote: unstamped(self.quote),
             lots: self.lots,
             money: self.money,
         }
@@ -157,7 +157,7 @@ impl Figures {
         requires stamp { stamp_small e.now.stamp ≡ true }
         requires kind { kind_lawful e.now.kind ≡ true }
         requires room { roomy self.old ≡ true }
-        ensures { self.new ≡ marked e.now.kind e.now.stamp self.old }
+        ensures { self.new ≡ with_entry e.now.kind e.now.stamp self.old }
     {
         let stamp = short(e.stamp);
         match e.kind {
@@ -189,8 +189,8 @@ impl Figures {
 
     // A sound entry of the series enters the figures of a window with these edges, if the window holds its stamp. An entry for
     // which the sums have no room changes nothing.
-    pub fn mark_in(&mut self, e: &SoundEntry, edges: (i64, i64))
-        ensures { self.new ≡ marked_in edges self.old e.now.entry }
+    pub fn enter_sound(&mut self, e: &SoundEntry, edges: (i64, i64))
+        ensures { self.new ≡ entered_sound edges self.old e.now.entry }
     {
         let (first, last) = edges;
         if (first..=last).contains(&e.entry.stamp) && self.has_room() {
@@ -205,7 +205,7 @@ impl Figures {
     {
         if e.series == i64::from(series) {
             if let Some(sound) = SoundEntry::new(e) {
-                self.mark_in(&sound, edges);
+                self.enter_sound(&sound, edges);
             }
         }
     }
