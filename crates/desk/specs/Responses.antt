@@ -11,7 +11,7 @@ use Rattle.answers.specs.declared.faults.LineFault.TheVariants.{ShortBuffer}
 use Rattle.desk.specs.Desks.{Standing, line_after, line_answer}
 
 -- the line is read by the grammar, in the one way there is; what was read is answered, and what then stands is told
-pub record Heard (line : List ℕ) (s : Standing) (answer : Result Reply LineFault) (t : Standing) : Type 0 where
+pub record LineAnswered (line : List ℕ) (s : Standing) (answer : Result Reply LineFault) (t : Standing) : Type 0 where
   pub read : Result LineCall NotRead
   pub parsed : Parsed line read
   pub answered : answer ≡ line_answer s read
@@ -21,4 +21,4 @@ pub record Heard (line : List ℕ) (s : Standing) (answer : Result Reply LineFau
 -- the front of the buffer, and the bytes after them are as they were
 pub record Responded (line : List ℕ) (s : Standing) (old : List ℕ) (r : Result ℕ LineFault) (new : List ℕ) (t : Standing) : Type 0 where
   pub short : length old < 96 → (r ≡ Err ShortBuffer) × (new ≡ old) × (t ≡ s)
-  pub long : 96 ≤ length old → (answer : Result Reply LineFault) × Heard line s answer t × Replied (answer_text answer) old r new
+  pub long : 96 ≤ length old → (answer : Result Reply LineFault) × LineAnswered line s answer t × Replied (answer_text answer) old r new

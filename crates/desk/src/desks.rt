@@ -5,7 +5,7 @@ ghost use Rattle.std.specs.Prelude.{◌≡◌, ◌≤◌, IfErr, IfOk};
 ghost use Rattle.book.specs.Ledgers.{Ledger};
 ghost use Rattle.lines.specs.Spelled.{OneReading};
 ghost use Rattle.desk.specs.Desks.{call_after, call_answer, standing, waiting};
-ghost use Rattle.desk.specs.Responses.{Heard, Responded};
+ghost use Rattle.desk.specs.Responses.{LineAnswered, Responded};
 
 use answers::faults::LineFault;
 use answers::writing::{ROOM, write_answer};
@@ -76,8 +76,8 @@ impl Desk {
     }
 
     // Reads a line and makes its call.
-    fn hear<B: Reusable>(&mut self, book: &mut B, line: &[u8]) -> Result<Reply, LineFault>
-        ensures heard { Heard line.now (standing self.old (B.Book.meaning book.old)) result (standing self.new (B.Book.meaning book.new)) }
+    fn answer_line<B: Reusable>(&mut self, book: &mut B, line: &[u8]) -> Result<Reply, LineFault>
+        ensures answered { LineAnswered line.now (standing self.old (B.Book.meaning book.old)) result (standing self.new (B.Book.meaning book.new)) }
         ensures refused { IfErr result (λ _. standing self.new (B.Book.meaning book.new) ≡ standing self.old (B.Book.meaning book.old)) }
     {
         let call = parse(line)?;
@@ -99,7 +99,7 @@ impl Desk {
         if out.len() < ROOM {
             return Err(LineFault::ShortBuffer);
         }
-        let answer = self.hear(book, line);
+        let answer = self.answer_line(book, line);
         write_answer(&answer, out)
     }
 }

@@ -1,4 +1,4 @@
 pub mod Cutting
-pub mod Speaking
-pub mod Feeding
+pub mod OneTranscript
+pub mod Pieces
 pub mod Whole

@@ -6,68 +6,68 @@ use Rattle.std.proofs.lemmas.List.{append-nil}
 use Rattle.std.proofs.lemmas.List.Elements.{All-nil}
 use Rattle.book.specs.Ledgers.{Ledger}
 use Rattle.desk.specs.Desks.{Standing, waiting}
-use Rattle.stream.specs.Held.{Closed, Fed, Flushed, Passed, View, Went, at_first}
+use Rattle.stream.specs.Held.{InputClosed, LinesAnswered, Flushed, PieceTaken, View, PieceAnswered, at_first}
 use Rattle.stream.specs.Inputs.{last_line}
 use Rattle.stream.specs.Served.{Finished, Served}
-use Rattle.stream.specs.Transcripts.{Spoken}
+use Rattle.stream.specs.Transcripts.{IsTranscript}
 use Rattle.stream.proofs.Cutting.{lines_split}
-use Rattle.stream.proofs.Feeding.{went_join, went_none}
-use Rattle.stream.proofs.Speaking.{spoken_join}
+use Rattle.stream.proofs.Pieces.{piece_join, piece_none}
+use Rattle.stream.proofs.OneTranscript.{transcript_join}
 
 -- so much of the input was read, and this is what it led to
 pub record Reached (before after : Option (List ℕ)) (a b : View) : Type 0 where
   pub input : List ℕ
   pub read : Consumes before after input
-  pub went : Went a input b
+  pub answered : PieceAnswered a input b
 
 pub reached_none : (remaining : Option (List ℕ)) (a : View) → Reached remaining remaining a a
-reached_none remaining a = record { input = []; read = Consumes-nil remaining; went = went_none a }
+reached_none remaining a = record { input = []; read = Consumes-nil remaining; answered = piece_none a }
 
 -- a session that is flushed has printed the same
-went_flushed : (a b c : View) (contents : Option (List ℕ)) (piece : List ℕ) → Went a piece b → Flushed b contents c → Went a piece c
-went_flushed a b c contents piece w f = record {
+piece_flushed : (a b c : View) (contents : Option (List ℕ)) (piece : List ℕ) → PieceAnswered a piece b → Flushed b contents c → PieceAnswered a piece c
+piece_flushed a b c contents piece w f = record {
   out = w.out;
   written = Appends-kept a.printed contents c.printed w.out (Appends-kept a.printed b.printed contents w.out w.written f.sent) f.printed;
-  fed = subst (λ (s : Standing). Fed a.standing a.held piece w.out s c.held) (sym f.standing)
-      (subst (λ hs. Fed a.standing a.held piece w.out b.standing hs) (sym f.held) w.fed);
+  lines = subst (λ (s : Standing). LinesAnswered a.standing a.held piece w.out s c.held) (sym f.standing)
+      (subst (λ hs. LinesAnswered a.standing a.held piece w.out b.standing hs) (sym f.held) w.lines);
 }
 
-pub passed : (a b c : View) (contents : Option (List ℕ)) (piece : List ℕ) → Went a piece b → Flushed b contents c → Passed a piece contents c
-passed a b c contents piece w f = record { went = went_flushed a b c contents piece w f; sent = f.printed }
+pub piece_taken : (a b c : View) (contents : Option (List ℕ)) (piece : List ℕ) → PieceAnswered a piece b → Flushed b contents c → PieceTaken a piece contents c
+piece_taken a b c contents piece w f = record { answered = piece_flushed a b c contents piece w f; sent = f.printed }
 
 -- one piece more
 pub reached_more : (x y z : Option (List ℕ)) (a b c : View) (piece : List ℕ)
-    → Reached x y a b → Consumes y z piece → Went b piece c → Reached x z a c
-reached_more x y z a b c piece r read went = record {
+    → Reached x y a b → Consumes y z piece → PieceAnswered b piece c → Reached x z a c
+reached_more x y z a b c piece r read answered = record {
   input = r.input ++ piece;
   read = Consumes-trans x y z r.input piece r.read read;
-  went = went_join a b c r.input piece r.went went;
+  answered = piece_join a b c r.input piece r.answered answered;
 }
 
 -- the end of the input
 pub served_all : (x y z contents after : Option (List ℕ)) (m : Ledger) (b d : View) (none : List ℕ)
     → Reached x y (at_first contents m) b → Consumes y z none → none ≡ [] → IsAtEnd z → Finished b after d → Served x contents after m d.standing.book
 served_all x y z contents after m b d none r read is end f =
-    let goes = r.went.fed.goes [] (All-nil (λ b. b ≢ 10)) refl in
+    let goes = r.answered.lines.goes [] (All-nil (λ b. b ≢ 10)) refl in
     let lines = goes.0 in
     let rest = goes.1 in
     record {
       input = r.input;
-      out = r.went.out ++ f.out;
+      out = r.answered.out ++ f.out;
       stands = d.standing;
       whole = Consumes-whole x z (r.input ++ none) (λ xs. r.input ≡ xs) (Consumes-trans x y z r.input none r.read read) end (sym (append-nil r.input) ∙ ap (λ ys. r.input ++ ys) (sym is));
-      written = Appends-trans contents b.printed after r.went.out f.out r.went.written f.written;
-      spoken = subst (λ ls. Spoken (waiting m) ls (r.went.out ++ f.out) d.standing) (sym (lines_split r.input lines rest goes.2))
-          (spoken_join (waiting m) b.standing d.standing lines (last_line rest) r.went.out f.out goes.3 (f.last rest goes.2.open_end goes.4));
+      written = Appends-trans contents b.printed after r.answered.out f.out r.answered.written f.written;
+      is_transcript = subst (λ ls. IsTranscript (waiting m) ls (r.answered.out ++ f.out) d.standing) (sym (lines_split r.input lines rest goes.2))
+          (transcript_join (waiting m) b.standing d.standing lines (last_line rest) r.answered.out f.out goes.3 (f.last rest goes.2.open_end goes.4));
       book = refl;
     }
 
 -- closed and flushed, a session has finished
-pub finished : (a b c : View) (contents : Option (List ℕ)) → Closed a b → Flushed b contents c → Finished a contents c
+pub finished : (a b c : View) (contents : Option (List ℕ)) → InputClosed a b → Flushed b contents c → Finished a contents c
 finished a b c contents x f = record {
   out = x.out;
   written = Appends-kept a.printed b.printed contents x.out x.written f.sent;
-  last = λ line h was. subst (Spoken a.standing (last_line line) x.out) (sym f.standing) (x.last line h was);
+  last = λ line h was. subst (IsTranscript a.standing (last_line line) x.out) (sym f.standing) (x.last line h was);
   sent = f.printed;
   held = f.held ∙ x.held;
 }

@@ -4,7 +4,7 @@ use Rattle.std.specs.Io.KnownBytes.{Appends, Keeps}
 use Rattle.book.specs.Ledgers.{Ledger}
 use Rattle.desk.specs.Desks.{Standing, waiting}
 use Rattle.stream.specs.Inputs.{Splits, Unbroken, last_line}
-use Rattle.stream.specs.Transcripts.{Spoken}
+use Rattle.stream.specs.Transcripts.{IsTranscript}
 
 -- of a line that has not ended, its first 201 bytes: of any that is longer the answer is the same
 abbrev pub held : List ℕ → List ℕ
@@ -12,9 +12,9 @@ held line = take 201 line
 
 -- a session that stood so, and held the first bytes of some line, was given a piece: the lines that ended in it are answered,
 -- and of the last one the first bytes are held
-pub record Fed (s : Standing) (old piece out : List ℕ) (t : Standing) (new : List ℕ) : Type 0 where
+pub record LinesAnswered (s : Standing) (old piece out : List ℕ) (t : Standing) (new : List ℕ) : Type 0 where
   pub goes : (line : List ℕ) → Unbroken line → old ≡ held line →
-      (lines : List (List ℕ)) × (rest : List ℕ) × Splits (line ++ piece) lines rest × Spoken s lines out t × (new ≡ held rest)
+      (lines : List (List ℕ)) × (rest : List ℕ) × Splits (line ++ piece) lines rest × IsTranscript s lines out t × (new ≡ held rest)
 
 -- ---- a session with its book and its writer
 
@@ -29,28 +29,28 @@ abbrev pub at_first : Option (List ℕ) → Ledger → View
 at_first contents m = record { printed = contents; standing = waiting m; held = [] }
 
 -- the line that ends with these bytes is answered, and nothing is held of the next
-pub record Ended (a : View) (bytes : List ℕ) (b : View) : Type 0 where
+pub record LineEnded (a : View) (bytes : List ℕ) (b : View) : Type 0 where
   pub out : List ℕ
   pub written : Appends a.printed b.printed out
-  pub spoken : (line : List ℕ) → a.held ≡ held line → Spoken a.standing ((line ++ bytes) ∷ []) out b.standing
+  pub is_transcript : (line : List ℕ) → a.held ≡ held line → IsTranscript a.standing ((line ++ bytes) ∷ []) out b.standing
   pub held : b.held ≡ []
 
 -- given a piece, it answers the lines that ended in it
-pub record Went (a : View) (piece : List ℕ) (b : View) : Type 0 where
+pub record PieceAnswered (a : View) (piece : List ℕ) (b : View) : Type 0 where
   pub out : List ℕ
   pub written : Appends a.printed b.printed out
-  pub fed : Fed a.standing a.held piece out b.standing b.held
+  pub lines : LinesAnswered a.standing a.held piece out b.standing b.held
 
 -- the same, and no answer waits: the writer has all that was printed
-pub record Passed (a : View) (piece : List ℕ) (contents : Option (List ℕ)) (b : View) : Type 0 where
-  pub went : Went a piece b
+pub record PieceTaken (a : View) (piece : List ℕ) (contents : Option (List ℕ)) (b : View) : Type 0 where
+  pub answered : PieceAnswered a piece b
   pub sent : Keeps contents b.printed
 
 -- at the end of the input the line that has not ended, if there is one, is answered too, and nothing is held any more
-pub record Closed (a b : View) : Type 0 where
+pub record InputClosed (a b : View) : Type 0 where
   pub out : List ℕ
   pub written : Appends a.printed b.printed out
-  pub last : (line : List ℕ) → Unbroken line → a.held ≡ held line → Spoken a.standing (last_line line) out b.standing
+  pub last : (line : List ℕ) → Unbroken line → a.held ≡ held line → IsTranscript a.standing (last_line line) out b.standing
   pub held : b.held ≡ []
 
 -- flushed, the writer has all that was printed, and nothing else changes
@@ -61,7 +61,7 @@ pub record Flushed (a : View) (contents : Option (List ℕ)) (b : View) : Type 0
   pub held : b.held ≡ a.held
 
 -- a line is answered, where it stands so: its answer and a newline are printed
-pub record Said (line : List ℕ) (s : Standing) (before after : Option (List ℕ)) (t : Standing) : Type 0 where
+pub record AnswerPrinted (line : List ℕ) (s : Standing) (before after : Option (List ℕ)) (t : Standing) : Type 0 where
   pub out : List ℕ
   pub written : Appends before after out
-  pub spoken : Spoken s (line ∷ []) out t
+  pub is_transcript : IsTranscript s (line ∷ []) out t

@@ -5,14 +5,14 @@ use Rattle.book.specs.Ledgers.{Ledger}
 use Rattle.desk.specs.Desks.{Standing, waiting}
 use Rattle.stream.specs.Held.{View, held}
 use Rattle.stream.specs.Inputs.{Unbroken, last_line, lines_of}
-use Rattle.stream.specs.Transcripts.{Spoken}
+use Rattle.stream.specs.Transcripts.{IsTranscript}
 
 -- the session has ended: what follows the last newline, if anything, is answered, the writer has all that was printed, and nothing
 -- is held or waits any more
 pub record Finished (a : View) (contents : Option (List ℕ)) (b : View) : Type 0 where
   pub out : List ℕ
   pub written : Appends a.printed contents out
-  pub last : (line : List ℕ) → Unbroken line → a.held ≡ held line → Spoken a.standing (last_line line) out b.standing
+  pub last : (line : List ℕ) → Unbroken line → a.held ≡ held line → IsTranscript a.standing (last_line line) out b.standing
   pub sent : Keeps contents b.printed
   pub held : b.held ≡ []
 
@@ -24,5 +24,5 @@ pub record Served (remaining before after : Option (List ℕ)) (old new : Ledger
   pub stands : Standing
   pub whole : IfSome remaining (λ xs. input ≡ xs)
   pub written : Appends before after out
-  pub spoken : Spoken (waiting old) (lines_of input) out stands
+  pub is_transcript : IsTranscript (waiting old) (lines_of input) out stands
   pub book : new ≡ stands.book

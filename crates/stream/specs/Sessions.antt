@@ -21,5 +21,5 @@ abbrev pub printed : Option (List ℕ) → Unsent → Option (List ℕ)
 printed contents u = append_known contents (unsent u)
 
 -- a session with a writer that has these bytes and a book of this meaning
-abbrev pub seen : Session → Option (List ℕ) → Ledger → View
-seen s contents m = record { printed = printed contents s.unsent; standing = standing s.desk m; held = kept s.pending }
+abbrev pub view_of : Session → Option (List ℕ) → Ledger → View
+view_of s contents m = record { printed = printed contents s.unsent; standing = standing s.desk m; held = kept s.pending }

@@ -17,7 +17,7 @@ abbrev pub after_lines : Standing → List (Result LineCall NotRead) → Standin
 after_lines s rs = fold line_after s rs
 
 -- the lines are read one by one, each in the one way there is, and this is printed
-pub record Spoken (s : Standing) (lines : List (List ℕ)) (out : List ℕ) (t : Standing) : Type 0 where
+pub record IsTranscript (s : Standing) (lines : List (List ℕ)) (out : List ℕ) (t : Standing) : Type 0 where
   pub readings : List (Result LineCall NotRead)
   pub read : AllZip Parsed lines readings
   pub printed : out ≡ transcript s readings
@@ -26,4 +26,4 @@ pub record Spoken (s : Standing) (lines : List (List ℕ)) (out : List ℕ) (t :
 -- what is printed rests on the lines alone: no lines have two transcripts, or lead to two ends
 pub record OneTranscript : Type 0 where
   pub once : (s : Standing) (lines : List (List ℕ)) (out more : List ℕ) (t u : Standing)
-      → Spoken s lines out t → Spoken s lines more u → (out ≡ more) × (t ≡ u)
+      → IsTranscript s lines out t → IsTranscript s lines more u → (out ≡ more) × (t ≡ u)

@@ -1,5 +1,5 @@
 // A whole input, from the first line to the last.
-#![tactic(auto, using(crate::proofs::Speaking::one_transcript, crate::proofs::Cutting::lines_split, crate::proofs::Cutting::all_split))]
+#![tactic(auto, using(crate::proofs::OneTranscript::one_transcript, crate::proofs::Cutting::lines_split, crate::proofs::Cutting::all_split))]
 
 ghost use Rattle.std.specs.Prelude.{◌≡◌, ◌≢◌, ◌+◌, ◌≤◌, take, IfErr, IfOk, OnOk};
 ghost use Rattle.std.specs.IoError.{error_kind};
@@ -10,7 +10,6 @@ ghost use Rattle.stream.specs.Inputs.{AllSplit, SplitLines};
 
 use crate::sessions::Session;
 use answers::writing::ROOM;
-use board::boards::Board;
 use book::books::Reusable;
 use std::io;
 use std::io::{ErrorKind, Read, Write};
@@ -38,7 +37,7 @@ fn next_piece<R: Read>(input: &mut R, piece: &mut [u8; PIECE]) -> io::Result<usi
 }
 
 // Answers the lines of an input until it ends. Answers go out before the next piece is read, so that whoever waits for one has it;
-// a write that fails ends it. The laws beside it are of the words that it is told in: no lines have two transcripts, and every
+// a write that fails ends it. The laws beside it are of the words that it is written_length in: no lines have two transcripts, and every
 // input falls into lines in one way.
 pub fn serve<B: Reusable, R: Read, W: Write>(
     book: &mut B,
@@ -57,16 +56,15 @@ pub fn serve<B: Reusable, R: Read, W: Write>(
         if n == 0 {
             return session.finish(book, output);
         }
-        session.pass(book, output, &piece[..n])?;
+        session.take_piece(book, output, &piece[..n])?;
     }
     Err(ErrorKind::Other.into())
 }
 
-// How many bytes a board and all that `serve` holds beside it take: input, lines, answers, output and the house. They are 33,328
-// for the board, 11,320 for a session, 8,192 for a piece of the input, and 97 for an answer.
-pub fn bytes_on_a_board() -> usize
-    ensures value { result ≡ 33328 + 11320 + 8192 + 97 }
-    ensures most { result ≤ 65536 }
+// How many bytes `serve` holds beside the book: 11,320 for a session, which is the house, the line that has not ended and the
+// answers not written yet; 8,192 for a piece of the input; and 97 for an answer with its newline.
+pub fn bytes_held() -> usize
+    ensures { result ≡ 11320 + 8192 + 97 }
 {
-    Board::size() + size_of::<Session>() + PIECE + (ROOM + 1)
+    size_of::<Session>() + PIECE + (ROOM + 1)
 }

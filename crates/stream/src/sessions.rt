@@ -2,9 +2,9 @@
 ghost use Rattle.std.specs.Prelude.{◌≡◌, ℕ, List, Option, OnOk};
 ghost use Rattle.book.specs.Ledgers.{Ledger};
 ghost use Rattle.desk.specs.Desks.{standing};
-ghost use Rattle.stream.specs.Held.{Closed, Ended, Flushed, Passed, Said, Went, at_first};
+ghost use Rattle.stream.specs.Held.{InputClosed, LineEnded, Flushed, PieceTaken, AnswerPrinted, PieceAnswered, at_first};
 ghost use Rattle.stream.specs.Served.{Finished};
-ghost use Rattle.stream.specs.Sessions.{printed, seen};
+ghost use Rattle.stream.specs.Sessions.{printed, view_of};
 
 use crate::pending::Pending;
 use crate::unsent::Unsent;
@@ -19,14 +19,14 @@ const NEWLINE: u8 = b'\n';
 
 // Answers a line, and prints the answer with a newline. Desk and unsent answers are two parameters, so that the line may lie in the
 // session beside them.
-fn say<B: Reusable, W: Write>(
+fn print_answer<B: Reusable, W: Write>(
     desk: &mut Desk,
     unsent: &mut Unsent,
     book: &mut B,
     writer: &mut W,
     line: &[u8],
 ) -> io::Result<()>
-    ensures { OnOk result (Said line.now (standing desk.old (B.Book.meaning book.old)) (printed (W.contents writer.old) unsent.old) (printed (W.contents writer.new) unsent.new) (standing desk.new (B.Book.meaning book.new))) }
+    ensures { OnOk result (AnswerPrinted line.now (standing desk.old (B.Book.meaning book.old)) (printed (W.contents writer.old) unsent.old) (printed (W.contents writer.new) unsent.new) (standing desk.new (B.Book.meaning book.new))) }
 {
     let mut answer = [NEWLINE; ROOM + 1];
     let n = desk.respond(book, line, &mut answer).unwrap();
@@ -42,7 +42,7 @@ pub struct Session {
 
 impl Session {
     pub fn new() -> Session
-        ensures { (contents : Option (List ℕ)) (m : Ledger) → seen result contents m ≡ at_first contents m }
+        ensures { (contents : Option (List ℕ)) (m : Ledger) → view_of result contents m ≡ at_first contents m }
     {
         Session {
             desk: Desk::new(),
@@ -58,26 +58,26 @@ impl Session {
         writer: &mut W,
         bytes: &[u8],
     ) -> io::Result<()>
-        ensures { OnOk result (Ended (seen self.old (W.contents writer.old) (B.Book.meaning book.old)) bytes.now (seen self.new (W.contents writer.new) (B.Book.meaning book.new))) }
+        ensures { OnOk result (LineEnded (view_of self.old (W.contents writer.old) (B.Book.meaning book.old)) bytes.now (view_of self.new (W.contents writer.new) (B.Book.meaning book.new))) }
     {
         if self.pending.line().is_empty() {
-            return say(&mut self.desk, &mut self.unsent, book, writer, bytes);
+            return print_answer(&mut self.desk, &mut self.unsent, book, writer, bytes);
         }
         self.pending.push(bytes);
         let line = self.pending.line();
-        say(&mut self.desk, &mut self.unsent, book, writer, line)?;
+        print_answer(&mut self.desk, &mut self.unsent, book, writer, line)?;
         self.pending.clear();
         Ok(())
     }
 
     // Goes through a piece of the input, however it was cut, and answers the lines that end in it.
-    fn feed<B: Reusable, W: Write>(
+    fn answer_piece<B: Reusable, W: Write>(
         &mut self,
         book: &mut B,
         writer: &mut W,
         piece: &[u8],
     ) -> io::Result<()>
-        ensures { OnOk result (Went (seen self.old (W.contents writer.old) (B.Book.meaning book.old)) piece.now (seen self.new (W.contents writer.new) (B.Book.meaning book.new))) }
+        ensures { OnOk result (PieceAnswered (view_of self.old (W.contents writer.old) (B.Book.meaning book.old)) piece.now (view_of self.new (W.contents writer.new) (B.Book.meaning book.new))) }
     {
         let mut rest = piece;
         while let Some(end) = memchr(NEWLINE, rest) {
@@ -90,7 +90,7 @@ impl Session {
 
     // Answers what follows the last newline, if anything does.
     fn close<B: Reusable, W: Write>(&mut self, book: &mut B, writer: &mut W) -> io::Result<()>
-        ensures { OnOk result (Closed (seen self.old (W.contents writer.old) (B.Book.meaning book.old)) (seen self.new (W.contents writer.new) (B.Book.meaning book.new))) }
+        ensures { OnOk result (InputClosed (view_of self.old (W.contents writer.old) (B.Book.meaning book.old)) (view_of self.new (W.contents writer.new) (B.Book.meaning book.new))) }
     {
         if self.pending.line().is_empty() {
             return Ok(());
@@ -98,30 +98,30 @@ impl Session {
         self.end_line(book, writer, &[])
     }
 
-    // Hands to the writer all that was printed, and asks it to pass it on.
+    // Hands to the writer all that was printed, and asks it to take_piece it on.
     pub fn flush<W: Write>(&mut self, writer: &mut W) -> io::Result<()>
-        ensures { OnOk result ((m : Ledger) → Flushed (seen self.old (W.contents writer.old) m) (W.contents writer.new) (seen self.new (W.contents writer.new) m)) }
+        ensures { OnOk result ((m : Ledger) → Flushed (view_of self.old (W.contents writer.old) m) (W.contents writer.new) (view_of self.new (W.contents writer.new) m)) }
     {
         self.unsent.send(writer)?;
         writer.flush()
     }
 
     // Takes a piece of the input and lets no answer wait: whoever gave the piece has the answers before the next one is asked for.
-    pub fn pass<B: Reusable, W: Write>(
+    pub fn take_piece<B: Reusable, W: Write>(
         &mut self,
         book: &mut B,
         writer: &mut W,
         piece: &[u8],
     ) -> io::Result<()>
-        ensures { OnOk result (Passed (seen self.old (W.contents writer.old) (B.Book.meaning book.old)) piece.now (W.contents writer.new) (seen self.new (W.contents writer.new) (B.Book.meaning book.new))) }
+        ensures { OnOk result (PieceTaken (view_of self.old (W.contents writer.old) (B.Book.meaning book.old)) piece.now (W.contents writer.new) (view_of self.new (W.contents writer.new) (B.Book.meaning book.new))) }
     {
-        self.feed(book, writer, piece)?;
+        self.answer_piece(book, writer, piece)?;
         self.flush(writer)
     }
 
     // The input has ended.
     pub fn finish<B: Reusable, W: Write>(&mut self, book: &mut B, writer: &mut W) -> io::Result<()>
-        ensures { OnOk result (Finished (seen self.old (W.contents writer.old) (B.Book.meaning book.old)) (W.contents writer.new) (seen self.new (W.contents writer.new) (B.Book.meaning book.new))) }
+        ensures { OnOk result (Finished (view_of self.old (W.contents writer.old) (B.Book.meaning book.old)) (W.contents writer.new) (view_of self.new (W.contents writer.new) (B.Book.meaning book.new))) }
     {
         self.close(book, writer)?;
         self.flush(writer)

@@ -20,4 +20,4 @@ returns-then-n-eq0-clause-served g c =
 
 pub loop-preserved : goal.loop-preserved
 loop-preserved g c =
-    reached_more _ _ _ _ _ _ _ c.loop.invariant c.in_ok-n.ensures.read c.in_ok-pass.ensures.went
+    reached_more _ _ _ _ _ _ _ c.loop.invariant c.in_ok-n.ensures.read c.in_ok-take_piece.ensures.answered

@@ -1,5 +1,5 @@
 use Rattle.stream.specs.Held.{at_first}
-use Rattle.stream.specs.Sessions.{seen}
+use Rattle.stream.specs.Sessions.{view_of}
 use Rattle.stream.proofs.Whole.{Reached}
 use Rattle.stream.proofs.serving.serve.Given as goal
 
@@ -7,4 +7,4 @@ use Rattle.stream.proofs.serving.serve.Given as goal
 abbrev pub invariant-loop : goal.invariant-loop
 invariant-loop g l =
     Reached (g.R.Read.remaining l.fn.input) (g.R.Read.remaining l.input) (at_first (g.W.Write.contents l.fn.output) (g.B.Book.meaning l.fn.book))
-    (seen l.session (g.W.Write.contents l.output) (g.B.Book.meaning l.book))
+    (view_of l.session (g.W.Write.contents l.output) (g.B.Book.meaning l.book))

@@ -2,20 +2,20 @@ use Rattle.std.proofs.Common.{◌≡◌, length, sym, ap, ◌∙◌, arith}
 use Rattle.std.proofs.lemmas.Bool.Decides.{nat_tests}
 use Rattle.std.proofs.lemmas.List.{nil_from_length}
 use Rattle.std.proofs.lemmas.Result.{on_ok_weaker}
-use Rattle.stream.specs.Sessions.{seen}
-use Rattle.stream.proofs.Feeding.{closed_line, closed_none}
+use Rattle.stream.specs.Sessions.{view_of}
+use Rattle.stream.proofs.Pieces.{closed_line, closed_none}
 use Rattle.stream.proofs.sessions.Session.close.Goals as goal
 
 pub returns-then-is_empty : goal.returns-then-is_empty
 returns-then-is_empty g c =
-    let a = seen c.args.self.now (g.W.Write.contents c.args.writer.now) (g.B.Book.meaning c.args.book.now) in
+    let a = view_of c.args.self.now (g.W.Write.contents c.args.writer.now) (g.B.Book.meaning c.args.book.now) in
     let none : length c.line.result.now ≡ 0 = let test = c.if-is_empty.ensures in grind (arith, nat_tests) in
     closed_none a (sym c.line.ensures ∙ nil_from_length c.line.result.now none)
 
 pub returns : goal.returns
 returns g c =
-    let a = seen c.args.self.now (g.W.Write.contents c.args.writer.now) (g.B.Book.meaning c.args.book.now) in
-    let b = seen c.end_line.new.self (g.W.Write.contents c.end_line.new.writer) (g.B.Book.meaning c.end_line.new.book) in
+    let a = view_of c.args.self.now (g.W.Write.contents c.args.writer.now) (g.B.Book.meaning c.args.book.now) in
+    let b = view_of c.end_line.new.self (g.W.Write.contents c.end_line.new.writer) (g.B.Book.meaning c.end_line.new.book) in
     on_ok_weaker c.end_line.result
     (closed_line a b (λ none. let empty = ap length (c.line.ensures ∙ none) in let test = c.if-is_empty.ensures in grind (arith, nat_tests)))
     c.end_line.ensures

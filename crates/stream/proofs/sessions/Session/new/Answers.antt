@@ -1,4 +1,4 @@
-use Rattle.stream.proofs.Feeding.{printed_none}
+use Rattle.stream.proofs.Pieces.{printed_none}
 use Rattle.stream.proofs.sessions.Session.new.Goals as goal
 
 pub returns : goal.returns

@@ -10,41 +10,41 @@ use Rattle.answers.specs.Texts.{answer_text}
 use Rattle.answers.specs.declared.faults.LineFault.{LineFault}
 use Rattle.desk.specs.Desks.{Standing}
 use Rattle.desk.specs.Responses.{Responded}
-use Rattle.stream.specs.Held.{Closed, Ended, Fed, Said, View, Went, held}
+use Rattle.stream.specs.Held.{InputClosed, LineEnded, LinesAnswered, AnswerPrinted, View, PieceAnswered, held}
 use Rattle.stream.specs.Inputs.{Splits, Unbroken, last_line}
 use Rattle.stream.specs.Sessions.{printed, unsent}
-use Rattle.stream.specs.Transcripts.{Spoken}
+use Rattle.stream.specs.Transcripts.{IsTranscript}
 use Rattle.stream.specs.declared.unsent.Unsent.{Unsent}
 use Rattle.stream.proofs.Cutting.{held_more, splits_ended, splits_join, splits_open}
-use Rattle.stream.proofs.Speaking.{spoken_held, spoken_join, spoken_line, spoken_none}
+use Rattle.stream.proofs.OneTranscript.{transcript_held, transcript_join, transcript_line, transcript_none}
 
-pub fed_none : (s : Standing) (old : List ℕ) → Fed s old [] [] s old
-fed_none s old = record {
+pub lines_answered_none : (s : Standing) (old : List ℕ) → LinesAnswered s old [] [] s old
+lines_answered_none s old = record {
   goes = λ line h is.
-      ([], line, subst (λ xs. Splits xs [] line) (sym (append-nil line)) (splits_open line h), spoken_none s, is);
+      ([], line, subst (λ xs. Splits xs [] line) (sym (append-nil line)) (splits_open line h), transcript_none s, is);
 }
 
-pub fed_join : (s t u : Standing) (a b c piece more out then : List ℕ) → Fed s a piece out t b → Fed t b more then u c → Fed s a (piece ++ more) (out ++ then) u c
-fed_join s t u a b c piece more out then f g = record {
+pub lines_answered_join : (s t u : Standing) (a b c piece more out then : List ℕ) → LinesAnswered s a piece out t b → LinesAnswered t b more then u c → LinesAnswered s a (piece ++ more) (out ++ then) u c
+lines_answered_join s t u a b c piece more out then f g = record {
   goes = λ line h is.
       let x = f.goes line h is in
       let y = g.goes x.1 x.2.open_end x.4 in (
         x.0 ++ y.0,
         y.1,
         subst (λ xs. Splits xs (x.0 ++ y.0) y.1) (append_assoc line piece more) (splits_join (line ++ piece) more x.0 y.0 x.1 y.1 x.2 y.2),
-        spoken_join s t u x.0 y.0 out then x.3 y.3,
+        transcript_join s t u x.0 y.0 out then x.3 y.3,
         y.4,
       );
 }
 
 -- bytes without a newline go on with the line
-pub fed_open : (s : Standing) (old new bytes : List ℕ) → Unbroken bytes → new ≡ held (old ++ bytes) → Fed s old bytes [] s new
-fed_open s old new bytes other is = record {
+pub lines_answered_open : (s : Standing) (old new bytes : List ℕ) → Unbroken bytes → new ≡ held (old ++ bytes) → LinesAnswered s old bytes [] s new
+lines_answered_open s old new bytes other is = record {
   goes = λ line h was. (
     [],
     line ++ bytes,
     splits_open (line ++ bytes) (All-append (λ b. b ≢ 10) line bytes h other),
-    spoken_none s,
+    transcript_none s,
     is ∙ ap (λ l. held (l ++ bytes)) was ∙ held_more line bytes,
   );
 }
@@ -61,23 +61,23 @@ newline_behind text out n is short full =
     ap (take (n + 1)) (full ∙ ap (λ xs. text ++ xs) behind ∙ sym (append_assoc text (10 ∷ []) rest))
     ∙ take_at (text ++ (10 ∷ [])) rest (n + 1) size
 
-abbrev told : Result ℕ LineFault → ℕ
-told (Ok n) = n
-told (Err f) = 0
+abbrev written_length : Result ℕ LineFault → ℕ
+written_length (Ok n) = n
+written_length (Err f) = 0
 
 -- a response to a line, printed with a newline
 pub said_line : (line : List ℕ) (s t : Standing) (before after : Option (List ℕ)) (out shown : List ℕ) (r : Result ℕ LineFault) (n : ℕ)
     → Responded line s (replicate 97 10) r out t → r ≡ Ok n → n ≤ 96 → shown ≡ take (n + 1) out → Appends before after shown
-    → Said line s before after t
+    → AnswerPrinted line s before after t
 said_line line s t before after out shown r n response ok short is_shown appended =
     let x = response.long (omega arith) in
     let answer = x.0 in
     let y = x.2.long (omega arith) in
-    let same : n ≡ length (answer_text answer) = ap told (sym ok ∙ y.0) in
+    let same : n ≡ length (answer_text answer) = ap written_length (sym ok ∙ y.0) in
     record {
       out = answer_text answer ++ (10 ∷ []);
       written = subst (Appends before after) (is_shown ∙ newline_behind (answer_text answer) out n same short y.1) appended;
-      spoken = spoken_line line s answer t x.1;
+      is_transcript = transcript_line line s answer t x.1;
     }
 
 -- a held line that is nothing
@@ -86,60 +86,60 @@ nothing_held [] e = refl
 nothing_held (b ∷ bs) e = absurd (omega (arith, ap length e))
 
 -- a line that stands whole in a piece
-pub ended_whole : (a b : View) (bytes : List ℕ) → a.held ≡ [] → b.held ≡ [] → Said bytes a.standing a.printed b.printed b.standing → Ended a bytes b
+pub ended_whole : (a b : View) (bytes : List ℕ) → a.held ≡ [] → b.held ≡ [] → AnswerPrinted bytes a.standing a.printed b.printed b.standing → LineEnded a bytes b
 ended_whole a b bytes none cleared x = record {
   out = x.out;
   written = x.written;
-  spoken = λ line was. subst (λ (l : List ℕ). Spoken a.standing ((l ++ bytes) ∷ []) x.out b.standing) (sym (nothing_held line (sym was ∙ none))) x.spoken;
+  is_transcript = λ line was. subst (λ (l : List ℕ). IsTranscript a.standing ((l ++ bytes) ∷ []) x.out b.standing) (sym (nothing_held line (sym was ∙ none))) x.is_transcript;
   held = cleared;
 }
 
 -- a line of which something was held
-pub ended_held : (a b : View) (bytes line : List ℕ) → line ≡ held (a.held ++ bytes) → b.held ≡ [] → Said line a.standing a.printed b.printed b.standing → Ended a bytes b
+pub ended_held : (a b : View) (bytes line : List ℕ) → line ≡ held (a.held ++ bytes) → b.held ≡ [] → AnswerPrinted line a.standing a.printed b.printed b.standing → LineEnded a bytes b
 ended_held a b bytes line is cleared x = record {
   out = x.out;
   written = x.written;
-  spoken = λ whole was.
-      spoken_held (whole ++ bytes) a.standing b.standing x.out
-      (subst (λ (l : List ℕ). Spoken a.standing (l ∷ []) x.out b.standing) (is ∙ ap (λ l. held (l ++ bytes)) was ∙ held_more whole bytes) x.spoken);
+  is_transcript = λ whole was.
+      transcript_held (whole ++ bytes) a.standing b.standing x.out
+      (subst (λ (l : List ℕ). IsTranscript a.standing (l ∷ []) x.out b.standing) (is ∙ ap (λ l. held (l ++ bytes)) was ∙ held_more whole bytes) x.is_transcript);
   held = cleared;
 }
 
 -- a newline ends a line
-went_ended : (a b : View) (bytes : List ℕ) → Unbroken bytes → Ended a bytes b → Went a (bytes ++ (10 ∷ [])) b
-went_ended a b bytes other x = record {
+piece_ended : (a b : View) (bytes : List ℕ) → Unbroken bytes → LineEnded a bytes b → PieceAnswered a (bytes ++ (10 ∷ [])) b
+piece_ended a b bytes other x = record {
   out = x.out;
   written = x.written;
-  fed = record {
+  lines = record {
     goes = λ line h was. (
       (line ++ bytes) ∷ [],
       [],
       subst (λ xs. Splits xs ((line ++ bytes) ∷ []) []) (append_assoc line bytes (10 ∷ [])) (splits_ended (line ++ bytes) (All-append (λ b. b ≢ 10) line bytes h other)),
-      x.spoken line was,
+      x.is_transcript line was,
       x.held,
     );
   };
 }
 
 -- the input ends behind a newline
-pub closed_none : (a : View) → a.held ≡ [] → Closed a a
+pub closed_none : (a : View) → a.held ≡ [] → InputClosed a a
 closed_none a none = record {
   out = [];
   written = Appends-nil a.printed;
-  last = λ line h was. subst (λ ls. Spoken a.standing ls [] a.standing) (sym (ap last_line (nothing_held line (sym was ∙ none)))) (spoken_none a.standing);
+  last = λ line h was. subst (λ ls. IsTranscript a.standing ls [] a.standing) (sym (ap last_line (nothing_held line (sym was ∙ none)))) (transcript_none a.standing);
   held = none;
 }
 
 -- or within a line
-pub closed_line : (a b : View) → (a.held ≡ [] → ⊥) → Ended a [] b → Closed a b
+pub closed_line : (a b : View) → (a.held ≡ [] → ⊥) → LineEnded a [] b → InputClosed a b
 closed_line a b some x = record {
   out = x.out;
   written = x.written;
-  last = λ line h was. one line was (subst (λ (l : List ℕ). Spoken a.standing (l ∷ []) x.out b.standing) (append-nil line) (x.spoken line was));
+  last = λ line h was. one line was (subst (λ (l : List ℕ). IsTranscript a.standing (l ∷ []) x.out b.standing) (append-nil line) (x.is_transcript line was));
   held = x.held;
 }
   where
-    one : (line : List ℕ) → a.held ≡ held line → Spoken a.standing (line ∷ []) x.out b.standing → Spoken a.standing (last_line line) x.out b.standing
+    one : (line : List ℕ) → a.held ≡ held line → IsTranscript a.standing (line ∷ []) x.out b.standing → IsTranscript a.standing (last_line line) x.out b.standing
     one [] was h = absurd (some was)
     one (c ∷ cs) was h = h
 
@@ -148,19 +148,19 @@ pub printed_none : (contents : Option (List ℕ)) (u : Unsent) → unsent u ≡ 
 printed_none None u h = refl
 printed_none (Some xs) u h = ap (λ ys. Some (xs ++ ys)) h ∙ ap Some (append-nil xs)
 
-pub went_none : (a : View) → Went a [] a
-went_none a = record { out = []; written = Appends-nil a.printed; fed = fed_none a.standing a.held }
+pub piece_none : (a : View) → PieceAnswered a [] a
+piece_none a = record { out = []; written = Appends-nil a.printed; lines = lines_answered_none a.standing a.held }
 
 -- bytes without a newline
-pub went_open : (printed : Option (List ℕ)) (s : Standing) (old new bytes : List ℕ) → Unbroken bytes → new ≡ held (old ++ bytes)
-    → Went (record { printed = printed; standing = s; held = old }) bytes (record { printed = printed; standing = s; held = new })
-went_open printed s old new bytes other is = record { out = []; written = Appends-nil printed; fed = fed_open s old new bytes other is }
+pub piece_open : (printed : Option (List ℕ)) (s : Standing) (old new bytes : List ℕ) → Unbroken bytes → new ≡ held (old ++ bytes)
+    → PieceAnswered (record { printed = printed; standing = s; held = old }) bytes (record { printed = printed; standing = s; held = new })
+piece_open printed s old new bytes other is = record { out = []; written = Appends-nil printed; lines = lines_answered_open s old new bytes other is }
 
-pub went_join : (a b c : View) (piece more : List ℕ) → Went a piece b → Went b more c → Went a (piece ++ more) c
-went_join a b c piece more x y = record {
+pub piece_join : (a b c : View) (piece more : List ℕ) → PieceAnswered a piece b → PieceAnswered b more c → PieceAnswered a (piece ++ more) c
+piece_join a b c piece more x y = record {
   out = x.out ++ y.out;
   written = Appends-trans a.printed b.printed c.printed x.out y.out x.written y.written;
-  fed = fed_join a.standing b.standing c.standing a.held b.held c.held piece more x.out y.out x.fed y.fed;
+  lines = lines_answered_join a.standing b.standing c.standing a.held b.held c.held piece more x.out y.out x.lines y.lines;
 }
 
 -- ---- a piece, newline by newline
@@ -169,10 +169,10 @@ went_join a b c piece more x y = record {
 pub record Gone (piece rest : List ℕ) (a b : View) : Type 0 where
   pub front : List ℕ
   pub whole : piece ≡ front ++ rest
-  pub went : Went a front b
+  pub answered : PieceAnswered a front b
 
 pub gone_none : (piece : List ℕ) (a : View) → Gone piece piece a a
-gone_none piece a = record { front = []; whole = refl; went = went_none a }
+gone_none piece a = record { front = []; whole = refl; answered = piece_none a }
 
 -- no newline stands before a place
 unbroken_before : (rest : List ℕ) (n : ℕ) → n ≤ length rest → Nowhere (Passes (is_byte 10) rest) 0 n → Unbroken (take n rest)
@@ -183,7 +183,7 @@ unbroken_before rest n h none =
     none i (omega arith) under (eq-eqb (get_or rest i 0) 10 (sym (get_or-take n rest i 0 under) ∙ is)))
 
 -- as far as the next newline
-pub gone_line : (piece rest : List ℕ) (n : ℕ) (a b c : View) → NoneBefore (Passes (is_byte 10) rest) 0 (length rest) n → Passes (is_byte 10) rest n → Gone piece rest a b → Ended b (take n rest) c → Gone piece (drop (n + 1) rest) a c
+pub gone_line : (piece rest : List ℕ) (n : ℕ) (a b c : View) → NoneBefore (Passes (is_byte 10) rest) 0 (length rest) n → Passes (is_byte 10) rest n → Gone piece rest a b → LineEnded b (take n rest) c → Gone piece (drop (n + 1) rest) a c
 gone_line piece rest n a b c first newline p x =
     let bytes = take n rest ++ (10 ∷ []) in
     let high = first.high in
@@ -195,15 +195,15 @@ gone_line piece rest n a b c first newline p x =
           p.whole
           ∙ ap (λ xs. p.front ++ xs) (sym (take-append-drop (n + 1) rest) ∙ ap (λ xs. xs ++ drop (n + 1) rest) up_to)
           ∙ sym (append_assoc p.front bytes (drop (n + 1) rest));
-      went = went_join a b c p.front bytes p.went (went_ended b c (take n rest) unbroken x);
+      answered = piece_join a b c p.front bytes p.answered (piece_ended b c (take n rest) unbroken x);
     }
 
 -- and to the end, where none is left
 pub gone_all : (piece rest new : List ℕ) (printed : Option (List ℕ)) (s : Standing) (old : List ℕ) (a : View)
     → Nowhere (Passes (is_byte 10) rest) 0 (length rest) → Gone piece rest a (record { printed = printed; standing = s; held = old }) → new ≡ held (old ++ rest)
-    → Went a piece (record { printed = printed; standing = s; held = new })
+    → PieceAnswered a piece (record { printed = printed; standing = s; held = new })
 gone_all piece rest new printed s old a none p is =
     let unbroken : Unbroken rest = subst Unbroken (take_all (length rest) rest (omega arith)) (unbroken_before rest (length rest) (omega arith) none) in
-    subst (λ xs. Went a xs (record { printed = printed; standing = s; held = new })) (sym p.whole)
-    (went_join a (record { printed = printed; standing = s; held = old }) (record { printed = printed; standing = s; held = new }) p.front rest p.went
-    (went_open printed s old new rest unbroken is))
+    subst (λ xs. PieceAnswered a xs (record { printed = printed; standing = s; held = new })) (sym p.whole)
+    (piece_join a (record { printed = printed; standing = s; held = old }) (record { printed = printed; standing = s; held = new }) p.front rest p.answered
+    (piece_open printed s old new rest unbroken is))

@@ -12,9 +12,9 @@ use Rattle.lines.proofs.Neat.{written_short}
 use Rattle.answers.specs.Texts.{answer_text}
 use Rattle.answers.specs.declared.faults.LineFault.{LineFault}
 use Rattle.desk.specs.Desks.{Standing, line_after, line_answer}
-use Rattle.desk.specs.Responses.{Heard}
+use Rattle.desk.specs.Responses.{LineAnswered}
 use Rattle.stream.specs.Held.{held}
-use Rattle.stream.specs.Transcripts.{OneTranscript, Spoken, after_lines, transcript}
+use Rattle.stream.specs.Transcripts.{OneTranscript, IsTranscript, after_lines, transcript}
 use Rattle.stream.proofs.Cutting.{held_short}
 
 -- ---- lines after lines
@@ -35,11 +35,11 @@ read_more [] ms (r ∷ rs) qs h k = absurd h
 read_more (l ∷ ls) ms [] qs h k = absurd h
 read_more (l ∷ ls) ms (r ∷ rs) qs h k = (h.0, read_more ls ms rs qs h.1 k)
 
-pub spoken_none : (s : Standing) → Spoken s [] [] s
-spoken_none s = record { readings = []; read = tt; printed = refl; after = refl }
+pub transcript_none : (s : Standing) → IsTranscript s [] [] s
+transcript_none s = record { readings = []; read = tt; printed = refl; after = refl }
 
-pub spoken_join : (s t u : Standing) (ls ms : List (List ℕ)) (out more : List ℕ) → Spoken s ls out t → Spoken t ms more u → Spoken s (ls ++ ms) (out ++ more) u
-spoken_join s t u ls ms out more a b =
+pub transcript_join : (s t u : Standing) (ls ms : List (List ℕ)) (out more : List ℕ) → IsTranscript s ls out t → IsTranscript t ms more u → IsTranscript s (ls ++ ms) (out ++ more) u
+transcript_join s t u ls ms out more a b =
     let then = subst (λ (v : Standing). (more ≡ transcript v b.readings) × (u ≡ after_lines v b.readings)) a.after (b.printed, b.after) in
     record {
       readings = a.readings ++ b.readings;
@@ -65,15 +65,15 @@ parsed_held line r h = ⊎_elim (λ l. long l r h) (λ l. subst (λ xs. Parsed x
     )
 
 -- what is said to what is held of a line is said to the line
-pub spoken_held : (line : List ℕ) (s t : Standing) (out : List ℕ) → Spoken s (held line ∷ []) out t → Spoken s (line ∷ []) out t
-spoken_held line s t out x = record { readings = x.readings; read = whole x.readings x.read; printed = x.printed; after = x.after }
+pub transcript_held : (line : List ℕ) (s t : Standing) (out : List ℕ) → IsTranscript s (held line ∷ []) out t → IsTranscript s (line ∷ []) out t
+transcript_held line s t out x = record { readings = x.readings; read = whole x.readings x.read; printed = x.printed; after = x.after }
   where
     whole : (rs : List (Result LineCall NotRead)) → AllZip Parsed (held line ∷ []) rs → AllZip Parsed (line ∷ []) rs
     whole [] h = absurd h
     whole (r ∷ rs) h = (parsed_held line r h.0, h.1)
 
-pub spoken_line : (line : List ℕ) (s : Standing) (answer : Result Reply LineFault) (t : Standing) → Heard line s answer t → Spoken s (line ∷ []) (answer_text answer ++ (10 ∷ [])) t
-spoken_line line s answer t h = record {
+pub transcript_line : (line : List ℕ) (s : Standing) (answer : Result Reply LineFault) (t : Standing) → LineAnswered line s answer t → IsTranscript s (line ∷ []) (answer_text answer ++ (10 ∷ [])) t
+transcript_line line s answer t h = record {
   readings = h.read ∷ [];
   read = (h.parsed, tt);
   printed = ap (λ a. answer_text a ++ (10 ∷ [])) h.answered;

@@ -1,7 +1,7 @@
 use Rattle.std.proofs.Common.{◌≤◌, refl}
 use Rattle.std.proofs.lemmas.Result.{IfOk-at_ok, on_ok_weaker}
-use Rattle.stream.proofs.Feeding.{said_line}
-use Rattle.stream.proofs.sessions.say.Goals as goal
+use Rattle.stream.proofs.Pieces.{said_line}
+use Rattle.stream.proofs.sessions.print_answer.Goals as goal
 
 pub returns : goal.returns
 returns g c =
