@@ -3,6 +3,7 @@ pub mod Terms
 pub mod Series
 pub mod Rolls
 pub mod Calls
+pub mod Listings
 pub mod Houses
 pub mod Found
 pub mod Answers

@@ -4,7 +4,7 @@
 ghost use Rattle.std.specs.Prelude.{◌≡◌, IfErr, true, nat_lt};
 ghost use Rattle.house.specs.Calls.{bell_after, bell_answer, entry_after, entry_answer, entry_check, entry_passed, kind_on_ladder, list_after, list_answer, listed_terms, may_have, may_rule, new_state, ruling_after, ruling_answer, ruling_of, side_on_ladder, theory_after, theory_answer};
 ghost use Rattle.house.specs.Series.{lawful_ruling};
-ghost use Rattle.house.specs.Houses.{state};
+ghost use Rattle.house.specs.Houses.{set_of, state};
 
 use crate::faults::HouseFault;
 use crate::houses::House;
@@ -57,7 +57,7 @@ impl<L: LadderSet> House<L> {
     // A new house over a ladder set: listing, with no series.
     pub fn new(set: L) -> House<L>
         ensures state { state result ≡ new_state }
-        ensures set { result.set ≡ set }
+        ensures set { set_of result ≡ set }
     {
         House {
             set,
@@ -68,7 +68,7 @@ impl<L: LadderSet> House<L> {
 
     // The terms under which a series may be listed now.
     fn admitted(&self, listing: &Listing) -> Result<Terms, HouseFault>
-        ensures { result ≡ listed_terms (L.size self.now.set) listing.now (state self.now) }
+        ensures { result ≡ listed_terms (L.size (set_of self.now)) listing.now (state self.now) }
     {
         let number = self.listed.count();
         if self.phase != Phase::Listing {
@@ -82,10 +82,10 @@ impl<L: LadderSet> House<L> {
 
     // Lists a series, and tells its number.
     pub fn list(&mut self, listing: Listing) -> Result<u8, HouseFault>
-        ensures answer { result ≡ list_answer (L.size self.old.set) listing (state self.old) }
-        ensures after { state self.new ≡ list_after (L.size self.old.set) listing (state self.old) }
+        ensures answer { result ≡ list_answer (L.size (set_of self.old)) listing (state self.old) }
+        ensures after { state self.new ≡ list_after (L.size (set_of self.old)) listing (state self.old) }
         ensures refused { IfErr result (λ _. state self.new ≡ state self.old) }
-        ensures set { self.new.set ≡ self.old.set }
+        ensures set { set_of self.new ≡ set_of self.old }
     {
         let number = self.listed.count();
         let terms = self.admitted(&listing)?;
@@ -98,7 +98,7 @@ impl<L: LadderSet> House<L> {
         ensures answer { result ≡ bell_answer bell (state self.old) }
         ensures after { state self.new ≡ bell_after bell (state self.old) }
         ensures refused { IfErr result (λ _. state self.new ≡ state self.old) }
-        ensures set { self.new.set ≡ self.old.set }
+        ensures set { set_of self.new ≡ set_of self.old }
     {
         match (self.phase, bell) {
             (Phase::Listing, Bell::Open) => self.phase = Phase::Trading,
@@ -110,14 +110,14 @@ impl<L: LadderSet> House<L> {
 
     // A side of a quote is on its ladder, or is missing.
     fn is_side_on_ladder(&self, ladder: u8, side: Option<i64>) -> bool
-        ensures { result ≡ side_on_ladder (L.lawful self.now.set ladder) side }
+        ensures { result ≡ side_on_ladder (L.lawful (set_of self.now) ladder) side }
     {
         side.is_none_or(|price| is_lawful(&self.set, ladder, price))
     }
 
     // Whether the prices of an entry are on the ladder.
     fn is_on_ladder(&self, ladder: u8, kind: Kind) -> bool
-        ensures { result ≡ kind_on_ladder (L.lawful self.now.set ladder) kind }
+        ensures { result ≡ kind_on_ladder (L.lawful (set_of self.now) ladder) kind }
     {
         match kind {
             // Three arms of one body: an or-pattern gets no proof where it binds an `i64`, which the prover then takes for
@@ -134,7 +134,7 @@ impl<L: LadderSet> House<L> {
 
     // What the day and the terms of its series demand of an entry.
     fn check_entry(&self, day: &Day, entry: &Entry, terms: &Terms) -> Result<(), HouseFault>
-        ensures { result ≡ entry_check (L.lawful self.now.set) day.now entry.now terms.now }
+        ensures { result ≡ entry_check (L.lawful (set_of self.now)) day.now entry.now terms.now }
     {
         if !is_allowed(day, entry) {
             return Err(BookFault::BeyondLimits.into());
@@ -150,7 +150,7 @@ impl<L: LadderSet> House<L> {
 
     // Whether the house lets the entry go to a book of the day.
     fn pass(&self, day: &Day, entry: &Entry) -> Result<(), HouseFault>
-        ensures { result ≡ entry_passed (L.lawful self.now.set) day.now entry.now (state self.now) }
+        ensures { result ≡ entry_passed (L.lawful (set_of self.now)) day.now entry.now (state self.now) }
     {
         if self.phase != Phase::Trading {
             return Err(HouseFault::WrongPhase);
@@ -161,8 +161,8 @@ impl<L: LadderSet> House<L> {
 
     // Enters an entry into the book.
     pub fn enter<B: Book>(&self, book: &mut B, entry: Entry) -> Result<(), HouseFault>
-        ensures answer { result ≡ entry_answer (L.LadderSet.lawful self.now.set) (B.Book.meaning book.old) entry (state self.now) }
-        ensures after { B.Book.meaning book.new ≡ entry_after (L.LadderSet.lawful self.now.set) entry (state self.now) (B.Book.meaning book.old) }
+        ensures answer { result ≡ entry_answer (L.LadderSet.lawful (set_of self.now)) (B.Book.meaning book.old) entry (state self.now) }
+        ensures after { B.Book.meaning book.new ≡ entry_after (L.LadderSet.lawful (set_of self.now)) entry (state self.now) (B.Book.meaning book.old) }
         ensures refused { IfErr result (λ _. B.Book.meaning book.new ≡ B.Book.meaning book.old) }
     {
         self.pass(&book.day(), &entry)?;
@@ -175,7 +175,7 @@ impl<L: LadderSet> House<L> {
         ensures answer { result ≡ theory_answer series value (state self.old) }
         ensures after { state self.new ≡ theory_after series value (state self.old) }
         ensures refused { IfErr result (λ _. state self.new ≡ state self.old) }
-        ensures set { self.new.set ≡ self.old.set }
+        ensures set { set_of self.new ≡ set_of self.old }
     {
         let number = self.listed.find(series)?;
         if !is_side(value) {
@@ -197,7 +197,7 @@ impl<L: LadderSet> House<L> {
         ensures answer { result ≡ ruling_answer series value first (state self.old) }
         ensures after { state self.new ≡ ruling_after series value first (state self.old) }
         ensures refused { IfErr result (λ _. state self.new ≡ state self.old) }
-        ensures set { self.new.set ≡ self.old.set }
+        ensures set { set_of self.new ≡ set_of self.old }
     {
         let number = self.listed.find(series)?;
         if !may_rule(value, first) {

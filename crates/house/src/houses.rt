@@ -1,5 +1,6 @@
 // The house.
-ghost use Rattle.house.specs.Rolls.{OnLadders, roll};
+ghost use Rattle.house.specs.Listings.{roll_of};
+ghost use Rattle.house.specs.Rolls.{OnLadders};
 
 use crate::listed::Listed;
 use crate::phases::Phase;
@@ -12,5 +13,5 @@ pub struct House<L: LadderSet> {
     pub(crate) set: L,
     pub(crate) phase: Phase,
     pub(crate) listed: Listed,
-    ghost laddered: { OnLadders (L.size set) (roll listed.count listed.slots) },
+    ghost laddered: { OnLadders (L.size set) (roll_of listed) },
 }

@@ -1,7 +1,7 @@
 // The series that are listed, in the order listed.
 ghost use Rattle.std.specs.Prelude.{◌≡◌, ℕ, ◌+◌, ◌<◌, ◌≤◌, true, IfOk, Ok, nat_lt, slice_index_or, unsigned_abs};
 ghost use Rattle.house.specs.Calls.{demand};
-ghost use Rattle.house.specs.Rolls.{changed, is_listed, none_listed, roll, with_listed};
+ghost use Rattle.house.specs.Rolls.{changed, is_listed, none_listed, with_listed};
 ghost use Rattle.house.specs.declared.faults.HouseFault.TheVariants.{NoSuchSeries};
 ghost use Rattle.house.specs.Series.{blank, lawful_series, new_series};
 
@@ -43,8 +43,10 @@ pub struct Listed {
 }
 
 impl Listed {
+    ghost use Rattle.house.specs.Listings.{roll_of};
+
     pub(crate) fn new() -> Listed
-        ensures { roll result.count result.slots ≡ none_listed }
+        ensures { roll_of result ≡ none_listed }
     {
         let unused = blank();
         Listed {
@@ -55,7 +57,7 @@ impl Listed {
 
     // How many are listed, at most 32.
     pub(crate) fn count(&self) -> u8
-        ensures value { result ≡ self.now.count }
+        ensures value { result ≡ (roll_of self.now).count }
         ensures few { result ≤ 32 }
     {
         self.count
@@ -63,7 +65,7 @@ impl Listed {
 
     // The series of a number; a blank one if none is listed by it, and no Option, so that a roll has one for every number.
     pub(crate) fn get(&self, n: u8) -> Series
-        ensures value { result ≡ slice_index_or self.now.slots n blank }
+        ensures value { result ≡ (roll_of self.now).series n }
         ensures lawful { lawful_series n result ≡ true }
     {
         self.slots
@@ -74,24 +76,24 @@ impl Listed {
 
     // The number of a listed series, in 8 bits.
     pub(crate) fn find(&self, series: i64) -> Result<u8, HouseFault>
-        ensures value { result ≡ demand (is_listed self.now.count series) NoSuchSeries (Ok (unsigned_abs series)) }
-        ensures listed { IfOk result (λ n. n < self.now.count) }
+        ensures value { result ≡ demand (is_listed (roll_of self.now).count series) NoSuchSeries (Ok (unsigned_abs series)) }
+        ensures listed { IfOk result (λ n. n < (roll_of self.now).count) }
     {
         number_under(series, self.count).ok_or(HouseFault::NoSuchSeries)
     }
 
     // A listed series.
     pub(crate) fn series(&self, series: i64) -> Result<Series, HouseFault>
-        ensures { result ≡ demand (is_listed self.now.count series) NoSuchSeries (Ok (slice_index_or self.now.slots (unsigned_abs series) blank)) }
+        ensures { result ≡ demand (is_listed (roll_of self.now).count series) NoSuchSeries (Ok ((roll_of self.now).series (unsigned_abs series))) }
     {
         Ok(self.get(self.find(series)?))
     }
 
     // Lists a series by the next number.
     pub(crate) fn push(&mut self, terms: Terms)
-        requires room { nat_lt self.old.count 32 ≡ true }
-        requires lawful { lawful_series self.old.count (new_series terms) ≡ true }
-        ensures { roll self.new.count self.new.slots ≡ with_listed terms (roll self.old.count self.old.slots) }
+        requires room { nat_lt (roll_of self.old).count 32 ≡ true }
+        requires lawful { lawful_series (roll_of self.old).count (new_series terms) ≡ true }
+        ensures { roll_of self.new ≡ with_listed terms (roll_of self.old) }
     {
         self.slots[usize::from(self.count)] = Series::new(terms);
         self.count += 1;
@@ -99,9 +101,9 @@ impl Listed {
 
     // Changes a listed series.
     pub(crate) fn put(&mut self, n: u8, series: Series)
-        requires listed { n < self.old.count }
+        requires listed { n < (roll_of self.old).count }
         requires lawful { lawful_series n series ≡ true }
-        ensures { roll self.new.count self.new.slots ≡ changed n series (roll self.old.count self.old.slots) }
+        ensures { roll_of self.new ≡ changed n series (roll_of self.old) }
     {
         self.slots[usize::from(n)] = series;
     }

@@ -2,7 +2,7 @@
 ghost use Rattle.std.specs.Prelude.{◌≡◌, unsigned_abs};
 ghost use Rattle.house.specs.Answers.{answer_at};
 ghost use Rattle.house.specs.ByPath.{ByPath};
-ghost use Rattle.house.specs.Houses.{state};
+ghost use Rattle.house.specs.Houses.{set_of, state};
 ghost use Rattle.house.specs.Meaning.{Explained};
 ghost use Rattle.house.specs.Questions.{is_open, settle_answer};
 ghost use Rattle.house.specs.Reach.{AnswerInReach};
@@ -29,7 +29,7 @@ fn is_open(phase: Phase, edition: Edition) -> bool
 impl<L: LadderSet> House<L> {
     // The answer for a series, by way of its reference, which is an earlier series.
     fn answer<B: Book>(&self, book: &B, number: u8, edition: Edition) -> Answer
-        ensures value { result ≡ answer_at (L.LadderSet.lawful self.now.set) edition (state self.now) (B.Book.meaning book.now) number }
+        ensures value { result ≡ answer_at (L.LadderSet.lawful (set_of self.now)) edition (state self.now) (B.Book.meaning book.now) number }
         ensures reach { AnswerInReach number result }
     {
         let series = self.listed.get(number);
@@ -58,7 +58,7 @@ impl<L: LadderSet> House<L> {
         series: i64,
         edition: Edition,
     ) -> Result<Settlement, HouseFault>
-        ensures { result ≡ settle_answer (L.LadderSet.lawful self.now.set) edition series (state self.now) (B.Book.meaning book.now) }
+        ensures { result ≡ settle_answer (L.LadderSet.lawful (set_of self.now)) edition series (state self.now) (B.Book.meaning book.now) }
     {
         if !is_open(self.phase, edition) {
             return Err(HouseFault::WrongPhase);
@@ -75,9 +75,9 @@ impl<L: LadderSet> House<L> {
         series: i64,
         edition: Edition,
     ) -> Result<Settlement, HouseFault>
-        ensures answer { result ≡ settle_answer (L.LadderSet.lawful self.now.set) edition series (state self.now) (B.Book.meaning book.now) }
-        ensures path { ByPath (L.LadderSet.lawful self.now.set) edition (state self.now) (B.Book.meaning book.now) series result }
-        ensures meaning { Explained (L.LadderSet.lawful self.now.set) edition (state self.now) (B.Book.meaning book.now) (unsigned_abs series) result }
+        ensures answer { result ≡ settle_answer (L.LadderSet.lawful (set_of self.now)) edition series (state self.now) (B.Book.meaning book.now) }
+        ensures path { ByPath (L.LadderSet.lawful (set_of self.now)) edition (state self.now) (B.Book.meaning book.now) series result }
+        ensures meaning { Explained (L.LadderSet.lawful (set_of self.now)) edition (state self.now) (B.Book.meaning book.now) (unsigned_abs series) result }
     {
         self.answer_to(book, series, edition)
     }

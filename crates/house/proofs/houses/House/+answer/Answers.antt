@@ -17,8 +17,8 @@ returns-clause-value g t c =
     let n = c.args.number in
     let here = c.get-series.ensures.value in
     let same = ap (λ (x : Series). answered P ed (station_of n x m) c.match-series.reference) here in
-    let by = λ (o : Option ℕ) (told : c.match-series.reference ≡ of_reference (answer_at P ed s m) o) (there : c.get-series.result.terms.reference ≡ o).
-    (ap (answered P ed (station_of n (s.roll.series n) m)) told
+    let by = λ (o : Option ℕ) (by_reference : c.match-series.reference ≡ of_reference (answer_at P ed s m) o) (there : c.get-series.result.terms.reference ≡ o).
+    (ap (answered P ed (station_of n (s.roll.series n) m)) by_reference
     ∙ sym (settled_with P ed s m h.listed.lawful n o (ap (λ (x : Series). x.terms.reference) (sym here) ∙ there)))
     in
     c.answer-2.ensures.value ∙ same ∙ elim c.match-series.branch [
