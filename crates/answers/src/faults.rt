@@ -8,22 +8,27 @@ use house::faults::HouseFault;
 use ladders::faults::LadderFault;
 use lines::faults::NotRead;
 
+/// Why a line is refused.
 #[derive(Clone, Copy, PartialEq, Eq, Debug)]
 pub enum LineFault {
-    // A call before the day line.
+    /// A call before the day line.
     NoDay,
-    // A further day line.
+    /// A further day line.
     SecondDay,
+    /// The day line has an unlawful day record.
     Day(DayFault),
+    /// The day line has an unlawful tick.
     Ladders(LadderFault),
+    /// The house refuses the call.
     House(HouseFault),
+    /// The line is not of the grammar.
     NotRead(NotRead),
-    // The buffer for the answer is shorter than every answer may need.
+    /// The buffer for the answer is shorter than every answer may need.
     ShortBuffer,
 }
 
 impl LineFault {
-    // A method, since a From to u8 would not say what the number is.
+    /// A method, since a From to u8 would not say what the number is.
     pub fn number(self) -> u8
         ensures { result ≡ line_number self }
     {
@@ -37,7 +42,7 @@ impl LineFault {
         }
     }
 
-    // The origin of a refused price, or the place at which the line departs from the grammar.
+    /// The origin of a refused price, or the place at which the line departs from the grammar.
     pub fn detail(self) -> Option<u8>
         ensures detail { result ≡ line_detail self }
         ensures numbers { IsSome result ↔ ((line_number self ≡ 10) ⊎ (line_number self ≡ 11)) }

@@ -10,11 +10,11 @@ use house::answers::Settlement;
 use itoa::{Buffer, Integer};
 use calls::call::Reply;
 
-// A buffer of so many bytes has room for every answer.
+/// A buffer of so many bytes has room for every answer.
 pub const ROOM: usize = 96;
 
-// How many bytes an answer may need. Its clauses are the laws of the answers' texts: none is longer, none has a newline, and
-// no two answers share one.
+/// How many bytes an answer may need. Its clauses are the laws of the answers' texts: none is longer, none has a newline, and
+/// no two answers share one.
 #[tactic(auto, using(crate::proofs::Apart::laws))]
 pub fn room() -> usize
     ensures value { result ≡ 96 }
@@ -92,7 +92,7 @@ fn put_refused(out: &mut [u8], fault: LineFault) -> usize
     }
 }
 
-// Writes the answer to a line at the front of the buffer, and tells how many bytes it has.
+/// Writes the answer to a line at the front of the buffer, and tells how many bytes it has.
 pub fn write_answer(answer: &Result<Reply, LineFault>, out: &mut [u8]) -> Result<usize, LineFault>
     ensures replied { Replied (answer_text answer.now) out.old result out.new }
     ensures short { IfOk result (λ n. n ≤ 96) }

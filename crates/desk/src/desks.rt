@@ -19,13 +19,14 @@ use lines::parsing::parse;
 use calls::call::{Call, Reply};
 use calls::performing::perform;
 
-// No house stands before a day line. The desk has no book: one is lent with each line, and the day line begins it anew.
+/// No house stands before a day line. The desk has no book: one is lent with each line, and the day line begins it anew.
 #[derive(Drop)]
 pub struct Desk {
     house: Option<House<EvenSet>>,
 }
 
 impl Desk {
+    /// A desk before any day line.
     pub fn new() -> Desk
         ensures { (m : Ledger) → standing result m ≡ waiting m }
     {
@@ -63,7 +64,7 @@ impl Desk {
         Ok(perform(house, book, call)?)
     }
 
-    // Makes a call, or refuses it and changes nothing.
+    /// Makes a call, or refuses it and changes nothing.
     pub fn call<B: Reusable>(&mut self, book: &mut B, call: LineCall) -> Result<Reply, LineFault>
         ensures answer { result ≡ call_answer (standing self.old (B.Book.meaning book.old)) call }
         ensures after { standing self.new (B.Book.meaning book.new) ≡ call_after (standing self.old (B.Book.meaning book.old)) call }
@@ -84,8 +85,8 @@ impl Desk {
         self.call(book, call)
     }
 
-    // Answers a line: writes the answer at the front of the buffer, and tells how many bytes it has. A short buffer is refused
-    // before the line is looked at.
+    /// Answers a line: writes the answer at the front of the buffer, and tells how many bytes it has. A short buffer is refused
+    /// before the line is looked at.
     pub fn respond<B: Reusable>(
         &mut self,
         book: &mut B,

@@ -1,11 +1,13 @@
 // What the house answers to the question for a price.
 use rows::steps::Step;
 
-// A settlement price, the step that found it, and the step's place in its row from 1 on. A ruling that comes before every
-// step has place 0.
+/// A settlement price with the step that found it and the step's place in its row.
 #[derive(Clone, Copy, PartialEq, Eq, Debug)]
 pub struct Settlement {
+    /// In points.
     pub price: i64,
+    /// The step that found the price.
     pub step: Step,
+    /// 1 to 6, the position of that step in the row; 0 for a ruling with the first mark.
     pub place: u8,
 }

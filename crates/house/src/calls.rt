@@ -54,7 +54,7 @@ fn ruling_of(value: Option<i64>, first: bool) -> Option<Ruling>
 // Each call that changes the house says in a clause `set` that its ladders stay: of a model of the house every clause would name
 // both parts as well.
 impl<L: LadderSet> House<L> {
-    // A new house over a ladder set: listing, with no series.
+    /// A new house over a ladder set: listing, with no series.
     pub fn new(set: L) -> House<L>
         ensures state { state result ≡ new_state }
         ensures set { set_of result ≡ set }
@@ -80,7 +80,7 @@ impl<L: LadderSet> House<L> {
         listing.checked(number, self.set.count())
     }
 
-    // Lists a series, and tells its number.
+    /// Lists a series, and tells its number.
     pub fn list(&mut self, listing: Listing) -> Result<u8, HouseFault>
         ensures answer { result ≡ list_answer (L.size (set_of self.old)) listing (state self.old) }
         ensures after { state self.new ≡ list_after (L.size (set_of self.old)) listing (state self.old) }
@@ -93,7 +93,7 @@ impl<L: LadderSet> House<L> {
         Ok(number)
     }
 
-    // Rings a bell.
+    /// Rings a bell.
     pub fn ring(&mut self, bell: Bell) -> Result<(), HouseFault>
         ensures answer { result ≡ bell_answer bell (state self.old) }
         ensures after { state self.new ≡ bell_after bell (state self.old) }
@@ -159,7 +159,7 @@ impl<L: LadderSet> House<L> {
         self.check_entry(day, entry, &series.terms)
     }
 
-    // Enters an entry into the book.
+    /// Enters an entry into the book.
     pub fn enter<B: Book>(&self, book: &mut B, entry: Entry) -> Result<(), HouseFault>
         ensures answer { result ≡ entry_answer (L.LadderSet.lawful (set_of self.now)) (B.Book.meaning book.old) entry (state self.now) }
         ensures after { B.Book.meaning book.new ≡ entry_after (L.LadderSet.lawful (set_of self.now)) entry (state self.now) (B.Book.meaning book.old) }
@@ -170,7 +170,7 @@ impl<L: LadderSet> House<L> {
         Ok(())
     }
 
-    // Sets the theory value of a series, or clears it.
+    /// Sets the theory value of a series, or clears it.
     pub fn set_theory(&mut self, series: i64, value: Option<i64>) -> Result<(), HouseFault>
         ensures answer { result ≡ theory_answer series value (state self.old) }
         ensures after { state self.new ≡ theory_after series value (state self.old) }
@@ -187,7 +187,7 @@ impl<L: LadderSet> House<L> {
         Ok(())
     }
 
-    // Sets the ruling of a series, with or without the first mark, or clears it.
+    /// Sets the ruling of a series, with or without the first mark, or clears it.
     pub fn set_ruling(
         &mut self,
         series: i64,

@@ -6,28 +6,31 @@ ghost use Rattle.house.specs.declared.faults.HouseFault.TheVariants as refused;
 use book::faults::BookFault;
 use rows::families::NoSuchFamily;
 
+/// Why the house refuses a call.
 #[derive(Clone, Copy, PartialEq, Eq, Debug)]
 pub enum HouseFault {
-    // The phase does not allow the call.
+    /// The phase does not allow the call.
     WrongPhase,
-    // As many series are listed as a house may have.
+    /// As many series are listed as a house may have.
     SeriesFull,
+    /// No series is listed by the number.
     NoSuchSeries,
-    // The terms are not lawful, or name a ladder that the set lacks.
+    /// The terms are not lawful, or name a ladder that the set lacks.
     TermsNotLawful,
-    // A supplied value is beyond the price limit, or a cleared ruling has a first mark.
+    /// A supplied value is beyond the price limit, or a cleared ruling has a first mark.
     SuppliedBeyondLimits,
+    /// A trade, auction, leg or quote has a price that is not on the ladder of its series.
     OffLadder,
-    // A spread for a series that does not follow another.
+    /// A spread for a series that does not follow another.
     SpreadNotFollowing,
-    // No step finds a price for the series, for want of one for the origin.
+    /// No step finds a price for the series, for want of one for the origin.
     NoPrice(u8),
-    // What the book refused, or would.
+    /// What the book refused, or would.
     Book(BookFault),
 }
 
 impl HouseFault {
-    // A method, since a From to u8 would not say what the number is.
+    /// A method, since a From to u8 would not say what the number is.
     pub fn number(self) -> u8
         ensures { result ≡ house_number self }
     {

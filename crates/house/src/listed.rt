@@ -30,9 +30,9 @@ fn blank() -> Series
     Series::new(terms)
 }
 
-// Every series has lawful terms, with a reference to an earlier one if any, and supplied values within the price limit. What
-// is lawful goes by the series' number, which it does not know, so that functions say it. The slots are an array with a count,
-// since nothing here allocates; the kit's vector within an array would be a new dependency.
+/// Every series has lawful terms, with a reference to an earlier one if any, and supplied values within the price limit. What
+/// is lawful goes by the series' number, which it does not know, so that functions say it. The slots are an array with a count,
+/// since nothing here allocates; the kit's vector within an array would be a new dependency.
 #[derive(Drop)]
 pub struct Listed {
     slots: [Series; 32],

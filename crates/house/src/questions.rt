@@ -68,7 +68,7 @@ impl<L: LadderSet> House<L> {
             .map_err(HouseFault::NoPrice)
     }
 
-    // The settlement price of a series in an edition, or the origin of its refusal. House and book are only read.
+    /// The settlement price of a series in an edition, or the origin of its refusal. House and book are only read.
     pub fn settle<B: Book>(
         &self,
         book: &B,

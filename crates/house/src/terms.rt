@@ -9,27 +9,37 @@ use book::entries::{is_side, is_spread};
 use rows::families::Family;
 use rows::places::Marks;
 
-// The terms as they come in: numbers that nobody checked yet.
+/// The terms as they come in: numbers that nobody checked yet.
 #[derive(Clone, Copy, PartialEq, Eq, Debug)]
 pub struct Listing {
+    /// The number of the family, 1 to 15.
     pub family: i64,
+    /// The number of the ladder in the house's set, from 0 on.
     pub ladder: i64,
-    // The series that this one follows or copies.
+    /// The series that this one follows or copies.
     pub reference: Option<i64>,
-    // The previous day's settlement price, and the previous spread to the reference.
+    /// The previous day's settlement price, in points.
     pub previous_settlement: Option<i64>,
+    /// The previous spread to the reference, in points.
     pub previous_spread: Option<i64>,
+    /// Whether the day is the last trading day of the series, and the end of a quarter.
     pub marks: Marks,
 }
 
-// The terms of a listed series. Raw and checked terms are two types, so that what is checked need not be checked again.
+/// The terms of a listed series. Raw and checked terms are two types, so that what is checked need not be checked again.
 #[derive(Clone, Copy, PartialEq, Eq, Debug)]
 pub struct Terms {
+    /// By which row the series is settled.
     pub family: Family,
+    /// The number of its ladder in the house's set.
     pub ladder: u8,
+    /// The number of the series that it follows or copies, an earlier one.
     pub reference: Option<u8>,
+    /// The previous settlement price in points, if there is one.
     pub previous_settlement: Option<i64>,
+    /// The previous spread in points, if there is one.
     pub previous_spread: Option<i64>,
+    /// Whether the day is the last trading day of the series, and the end of a quarter.
     pub marks: Marks,
 }
 

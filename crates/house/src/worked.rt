@@ -8,16 +8,24 @@ ghost use Rattle.house.specs.declared.faults.HouseFault.TheVariants.{NoPrice};
 
 use rows::steps::Step;
 
-// What a step finds on a tick. The matter that a step does not look at is missing.
+/// What a step finds on a tick. The matter that a step does not look at is missing.
 #[derive(Clone, Copy)]
 pub struct WorkedPrice {
+    /// Of the ladder, in points.
     pub tick: u32,
+    /// The step that looks.
     pub step: Step,
+    /// The reference's price.
     pub reference: Option<i64>,
+    /// The theory value.
     pub theory: Option<i64>,
+    /// The last spread.
     pub spread: Option<i64>,
+    /// The best bid of the last quote.
     pub bid: Option<i64>,
+    /// Its best ask.
     pub ask: Option<i64>,
+    /// What the step finds.
     pub price: i64,
 }
 
@@ -46,8 +54,8 @@ fn by_theory(tick: u32, step: Step, theory: i64, price: i64) -> WorkedPrice
     }
 }
 
-// Beside the prices stands the origin of the refusal of family 8 on family 2 on family 1, numbered from 0 in the order of
-// listing, at the close and all without evidence: the family 1 series.
+/// Beside the prices stands the origin of the refusal of family 8 on family 2 on family 1, numbered from 0 in the order of
+/// listing, at the close and all without evidence: the family 1 series.
 pub fn worked_prices() -> ([WorkedPrice; 7], u8)
     ensures prices { AllByRecursion Holds result.0 }
     ensures refused { bare_chain ≡ Err result.1 }

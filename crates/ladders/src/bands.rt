@@ -2,16 +2,20 @@
 // keeps it, and stepping's Before as the next band looks at it.
 use crate::ticks::Tick;
 
-// A band as it is described, unchecked. The first band has no start: it reaches down without end.
+/// A band as it is described, unchecked. The first band has no start: it reaches down without end.
 #[derive(Clone, Copy)]
 pub struct Band {
+    /// The least price of the band, in points.
     pub start: Option<i64>,
+    /// In points.
     pub tick: i64,
 }
 
-// A later band: its prices begin at its start.
+/// A later band: its prices begin at its start.
 #[derive(Clone, Copy)]
 pub struct LaterBand {
+    /// The least price of the band, in points.
     pub start: i64,
+    /// The multiples of which are lawful in the band.
     pub tick: Tick,
 }

@@ -11,7 +11,7 @@ use crate::rungs::Ladder;
 use crate::stepping::SteppedLadder;
 use crate::ticks::Tick;
 
-// No TryFrom, whose impls have no place for what a description means.
+/// No TryFrom, whose impls have no place for what a description means.
 pub trait Describes<L: Ladder> {
     // What is wrong with the description, if anything.
     ghost fault: { Self → Option Fault };
@@ -19,7 +19,7 @@ pub trait Describes<L: Ladder> {
     // The lawful prices that are described.
     ghost prices: { Self → ℤ → Bool };
 
-    // The ladder with these lawful prices.
+    /// The ladder with these lawful prices.
     fn checked(&self) -> Result<L, LadderFault>
         ensures { TakenUnless (fault self.now) (λ l. (v : ℤ) → L.Ladder.holds l v ≡ prices self.now v) result };
 }

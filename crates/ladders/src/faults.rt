@@ -5,23 +5,31 @@ ghost use Rattle.ladders.specs.Faults.{number, reason};
 use std::error::Error;
 use std::fmt;
 
+/// What is wrong with the description of a ladder or of a set of ladders.
 #[derive(Clone, Copy, PartialEq, Eq, Debug)]
 pub enum LadderFault {
+    /// A set without a ladder.
     NoLadder,
+    /// A set of more than 16 ladders.
     TooManyLadders,
+    /// A stepped ladder without a band.
     NoBand,
+    /// A stepped ladder of more than 4 bands.
     TooManyBands,
+    /// A tick outside 1 to 1,000,000 points.
     TickOutOfRange,
-    // The first band has a start, or a later one has none.
+    /// The first band has a start, or a later one has none.
     StartMisplaced,
+    /// A start beyond the price limit.
     StartOutOfRange,
+    /// A start that is not over the one before.
     StartsNotRising,
-    // A start is no multiple of its own tick or of the tick before.
+    /// A start is no multiple of its own tick or of the tick before.
     StartOffTick,
 }
 
 impl LadderFault {
-    // The number that a refusal is known by. A method, since a From to u8 would not say what the number is.
+    /// The number that a refusal is known by. A method, since a From to u8 would not say what the number is.
     pub fn number(self) -> u8
         ensures { result ≡ number self }
     {

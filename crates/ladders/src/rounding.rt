@@ -10,15 +10,18 @@ ghost use Rattle.ladders.specs.Values.{closer_of, nearest_price};
 use crate::limits::LIMIT;
 use crate::sets::LadderSet;
 
-// A fraction rounded down, to the nearest and up.
+/// A fraction rounded down, to the nearest and up.
 #[derive(Clone, Copy, PartialEq, Eq, Debug)]
 pub struct Rounded {
+    /// The greatest lawful price not over the fraction, in points.
     pub below: i64,
+    /// The closest lawful price, of two equally close the larger.
     pub nearest: i64,
+    /// The least lawful price not under the fraction.
     pub above: i64,
 }
 
-// Whether a price lies within the limit and on its ladder.
+/// Whether a price lies within the limit and on its ladder.
 pub fn is_lawful<S: LadderSet>(set: &S, ladder: u8, price: i64) -> bool
     ensures { result ≡ (within price && S.lawful set.now ladder price) }
 {
@@ -69,8 +72,8 @@ fn closer(fraction: (i64, u32), low: i64, high: i64) -> i64
     if over <= under { high } else { low }
 }
 
-// The fraction (numerator, denominator) rounded to the lawful prices of a ladder: nothing for a denominator of zero or a
-// fraction beyond the price limit.
+/// The fraction (numerator, denominator) rounded to the lawful prices of a ladder: nothing for a denominator of zero or a
+/// fraction beyond the price limit.
 pub fn round<S: LadderSet>(set: &S, ladder: u8, fraction: (i64, u32)) -> Option<Rounded>
     ensures rule { AnswersWhere (inside fraction.0 fraction.1) (Rounds (S.lawful set.now ladder) fraction.0 fraction.1) result }
     ensures value { result ≡ rounded (S.lawful set.now ladder) fraction.0 fraction.1 }
@@ -89,7 +92,7 @@ pub fn round<S: LadderSet>(set: &S, ladder: u8, fraction: (i64, u32)) -> Option<
     })
 }
 
-// The lawful price closest to a fraction; of two equally close, the larger.
+/// The lawful price closest to a fraction; of two equally close, the larger.
 pub fn nearest<S: LadderSet>(set: &S, ladder: u8, fraction: (i64, u32)) -> Option<i64>
     ensures rule { AnswersWhere (inside fraction.0 fraction.1) (Nearest (S.lawful set.now ladder) fraction.0 fraction.1) result }
     ensures value { result ≡ nearest_price (S.lawful set.now ladder) fraction.0 fraction.1 }

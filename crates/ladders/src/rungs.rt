@@ -3,15 +3,16 @@ ghost use Rattle.std.specs.Prelude.{Bool, ℤ};
 ghost use Rattle.ladders.specs.Prices.{within};
 ghost use Rattle.ladders.specs.Rounding.{AnswersWhere, Above, Below, Near};
 
+/// A ladder, known by its lawful prices.
 pub trait Ladder: Copy {
     // The ladder's meaning: its lawful prices.
     ghost holds: { Self → ℤ → Bool };
 
-    // The least lawful price not under v, for v within the price limit.
+    /// The least lawful price not under v, for v within the price limit.
     fn above(&self, v: i64) -> Option<i64>
         ensures { AnswersWhere (within v) (Above (holds self.now) v) result };
 
-    // The greatest lawful price not over v, for v within the price limit.
+    /// The greatest lawful price not over v, for v within the price limit.
     fn below(&self, v: i64) -> Option<i64>
         ensures { AnswersWhere (within v) (Below (holds self.now) v) result };
 

@@ -13,20 +13,22 @@ use crate::rungs::Ladder;
 use crate::stepping::SteppedLadder;
 use crate::ticks::Tick;
 
+/// A set of ladders, known by its lawful prices.
 pub trait LadderSet {
     // The set's meaning: how many ladders it has, and for each ladder number the lawful prices.
     ghost size: { Self → ℕ };
 
     ghost lawful: { Self → ℕ → ℤ → Bool };
 
+    /// How many ladders it has.
     fn count(&self) -> u8
         ensures { result ≡ size self.now };
 
-    // The least lawful price not under v, for v within the price limit. It may pass the limit.
+    /// The least lawful price not under v, for v within the price limit. It may pass the limit.
     fn above(&self, ladder: u8, v: i64) -> Option<i64>
         ensures { AnswersWhere (within v) (Above (lawful self.now ladder) v) result };
 
-    // The greatest lawful price not over v, for v within the price limit. It may pass the limit.
+    /// The greatest lawful price not over v, for v within the price limit. It may pass the limit.
     fn below(&self, ladder: u8, v: i64) -> Option<i64>
         ensures { AnswersWhere (within v) (Below (lawful self.now ladder) v) result };
 
@@ -39,8 +41,8 @@ pub trait LadderSet {
     ghost dense: { (s : Self) (n : ℕ) (z : ℤ) → Near (lawful s n) z };
 }
 
-// A set of ladders of one make. The places from `count` on are not used: an array, since nothing here allocates, and no
-// ArrayVec of the kit, which would be a new dependency, and whose `new` asks that L has a default.
+/// A set of ladders of one make. The places from `count` on are not used: an array, since nothing here allocates, and no
+/// ArrayVec of the kit, which would be a new dependency, and whose `new` asks that L has a default.
 #[derive(Drop)]
 pub struct SetOf<L> {
     ladders: [L; 16],
@@ -48,8 +50,10 @@ pub struct SetOf<L> {
     ghost counted: { (1 ≤ count) × (count ≤ 16) },
 }
 
+/// Ladders of one tick each.
 pub type EvenSet = SetOf<Tick>;
 
+/// Ladders of bands.
 pub type SteppedSet = SetOf<SteppedLadder>;
 
 // A number of ladders, 1 to 16.
@@ -71,7 +75,7 @@ fn whole(v: i64) -> Option<i64>
 }
 
 impl<L: Ladder> SetOf<L> {
-    // The set of the ladders that are described, numbered in their order.
+    /// The set of the ladders that are described, numbered in their order.
     pub fn new<D: Describes<L>>(described: &[D]) -> Result<SetOf<L>, LadderFault>
         ensures { TakenUnless (set_fault D.Describes.fault described.now) (λ s. (s.count ≡ length described.now) × ((n : ℕ) (v : ℤ) → lawful_at L.Ladder.holds (take s.count s.ladders) n v ≡ lawful_at D.Describes.prices described.now n v)) result }
     {

@@ -11,8 +11,8 @@ use crate::limits::is_within;
 use crate::rungs::Ladder;
 use crate::ticks::Tick;
 
-// An array with a count, since nothing here allocates, and no ArrayVec of the kit, which would be a new dependency and is
-// not Copy.
+/// An array with a count, since nothing here allocates, and no ArrayVec of the kit, which would be a new dependency and is
+/// not Copy.
 #[derive(Clone, Copy)]
 pub struct SteppedLadder {
     first: Tick,
@@ -122,7 +122,7 @@ fn is_under(v: i64, start: i64) -> bool
 }
 
 impl SteppedLadder {
-    // The ladder of these bands: taken exactly if they are lawful, and otherwise refused with the first fault.
+    /// The ladder of these bands: taken exactly if they are lawful, and otherwise refused with the first fault.
     pub fn new(bands: &[Band]) -> Result<SteppedLadder, LadderFault>
         ensures taken { Decides (is_ok result) (LawfulBands bands.now) }
         ensures made { TakenUnless (ladder_fault bands.now) (λ l. description l.first (take l.count l.later) ≡ bands.now) result }

@@ -13,6 +13,7 @@ use crate::rungs::Ladder;
 
 const LARGEST: u32 = 1_000_000;
 
+/// A tick of 1 to 1,000,000 points: its multiples are lawful.
 #[derive(Clone, Copy)]
 pub struct Tick {
     points: u32,
@@ -20,7 +21,7 @@ pub struct Tick {
 }
 
 impl Tick {
-    // A tick of 1 to 1,000,000 points.
+    /// A tick of 1 to 1,000,000 points.
     pub fn new(points: i64) -> Result<Tick, LadderFault>
         ensures { TakenUnless (tick_fault points) (λ t. pos t.points ≡ points) result }
     {
@@ -30,7 +31,7 @@ impl Tick {
         }
     }
 
-    // Whether v is a multiple of the tick.
+    /// Whether v is a multiple of the tick.
     pub fn divides(self, v: i64) -> bool
         ensures { result ≡ multiple self.points v }
     {

@@ -2,21 +2,29 @@
 ghost use Rattle.std.specs.List.{AllByRecursion};
 ghost use Rattle.ladders.specs.Worked.{Holds};
 
+/// A way of rounding.
 #[derive(Clone, Copy)]
 pub enum Way {
+    /// To the closest lawful price.
     Nearest,
+    /// To the least lawful price not under.
     Above,
 }
 
+/// A number or fraction rounded on an even ladder.
 #[derive(Clone, Copy)]
 pub struct Worked {
+    /// Of the ladder, in points.
     pub tick: u32,
+    /// How it is rounded.
     pub way: Way,
+    /// Numerator and denominator.
     pub fraction: (i64, u32),
+    /// The price that it gives.
     pub price: i64,
 }
 
-// A theory value to the nearest and up, halves at negative numbers, and the middle of a bid of 100 and an ask of 130.
+/// A theory value to the nearest and up, halves at negative numbers, and the middle of a bid of 100 and an ask of 130.
 pub fn worked_roundings() -> [Worked; 6]
     ensures { AllByRecursion Holds result }
 {

@@ -19,6 +19,7 @@ fn minds_quarter_end(family: Family) -> bool
     matches!(family, Family::FrontIndex | Family::NearOption)
 }
 
+/// Which of the family's four rows settles a series with these marks in the edition.
 pub fn choose(family: Family, marks: Marks, edition: Edition) -> Choice
     ensures { result ≡ chosen family marks edition }
 {

@@ -2,31 +2,47 @@
 ghost use Rattle.std.specs.Prelude.{◌≡◌, ◌≤◌, Some, None, MatchResult};
 ghost use Rattle.rows.specs.Families.{family_of, number};
 
+/// What a series is, by which its rows are chosen.
 #[derive(Clone, Copy, PartialEq, Eq, Debug)]
 pub enum Family {
+    /// 1, a long bond, leading.
     LongBond = 1,
+    /// 2, a bond that follows another by a spread.
     FollowingBond,
+    /// 3, a medium or super-long bond, leading.
     OtherBond,
+    /// 4, a mini bond.
     MiniBond,
+    /// 5, the three-month overnight rate.
     ThreeMonthRate,
+    /// 6, a large index, first two months.
     FrontIndex,
+    /// 7, a large index, later months.
     LaterIndex,
+    /// 8, a mini, micro or cash-settled index.
     CopiedIndex,
+    /// 9, an index settled by theory.
     TheoryIndex,
+    /// 10, a foreign or commodity index, or rubber.
     ForeignIndex,
+    /// 11, a commodity, delivered.
     DeliveredCommodity,
+    /// 12, a commodity, cash only.
     CashCommodity,
+    /// 13, grain, delivered.
     DeliveredGrain,
+    /// 14, an index option, near.
     NearOption,
+    /// 15, any other option.
     OtherOption,
 }
 
-// A number that no family has.
+/// A number that no family has.
 #[derive(Clone, Copy, PartialEq, Eq, Debug)]
 pub struct NoSuchFamily(pub i64);
 
 impl Family {
-    // A method, since a From to u8 would not say what the number is.
+    /// The family's number, 1 to 15. A method, since a From to u8 would not say what the number is.
     pub fn number(self) -> u8
         ensures value { result ≡ number self }
         ensures range { (1 ≤ result) × (result ≤ 15) }

@@ -4,23 +4,35 @@ ghost use Rattle.rows.specs.Steps.{letter};
 
 use std::fmt;
 
+/// A way in which a price may be found.
 #[derive(Clone, Copy, PartialEq, Eq, Debug)]
 pub enum Step {
+    /// A, the last auction.
     Auction,
+    /// L, the last trade.
     Trade,
+    /// Q, the middle of the last quote.
     Quote,
+    /// V, money over lots.
     Average,
+    /// T, nearest of the theory value.
     Theory,
+    /// U, above of the theory value.
     TheoryUp,
+    /// S, the reference's price less the last spread.
     Spread,
+    /// P, the reference's price less the previous spread.
     PreviousSpread,
+    /// C, the reference's price.
     Copy,
+    /// B, the previous settlement.
     Previous,
+    /// D, the ruling.
     Ruling,
 }
 
 impl Step {
-    // The letter that is printed beside a price, as the byte that a line has.
+    /// The letter that is printed beside a price, as the byte that a line has.
     pub fn letter(self) -> u8
         ensures { result ≡ letter self }
     {

@@ -35,7 +35,7 @@ const B: u8 = 160;
 
 const D: u8 = 176;
 
-// No row has more places.
+/// No row has more places.
 pub const PLACES: usize = 6;
 
 // From family 1 on, for each family its four rows, for each row six places.
@@ -176,7 +176,7 @@ fn decode(code: u8) -> Option<Place>
     })
 }
 
-// The places of a row, with nothing past its end. An array, since nothing here allocates.
+/// The places of a row, with nothing past its end. An array, since nothing here allocates.
 pub fn places(family: Family, choice: Choice) -> [Option<Place>; PLACES]
     ensures value { (k : ℕ) → slice_index_or result k None ≡ at (row family choice) k }
     ensures gapless { (j k : ℕ) → j ≤ k → slice_index_or result j None ≡ None → slice_index_or result k None ≡ None }
@@ -185,7 +185,7 @@ pub fn places(family: Family, choice: Choice) -> [Option<Place>; PLACES]
     codes(family, choice).map(decode)
 }
 
-// The place of a row at a position from 0 on; nothing past its end.
+/// The place of a row at a position from 0 on; nothing past its end.
 pub fn place_at(family: Family, choice: Choice, position: usize) -> Option<Place>
     ensures value { result ≡ at (row family choice) position }
     ensures lawful { RowLawful (row family choice) }

@@ -8,6 +8,7 @@ use std::fmt;
 // A book of the day has at most so many places.
 const MOST_PLACES: usize = 30_000;
 
+/// A second settlement of one day of lines.
 #[derive(Drop)]
 pub struct Second {
     alloc: Global,
@@ -16,7 +17,7 @@ pub struct Second {
 }
 
 impl Second {
-    // Before its first day line. The book of the day will have so many places.
+    /// Before its first day line. The book of the day will have so many places.
     pub fn new(alloc: Global, places: usize) -> Second {
         Second {
             alloc,
@@ -25,7 +26,7 @@ impl Second {
         }
     }
 
-    // The answer to a line that is handed over without its newline.
+    /// The answer to a line that is handed over without its newline.
     pub fn answer(&mut self, line: &[u8]) -> Result<String, AllocError> {
         let alloc = self.alloc;
         match self.reply(line) {

@@ -33,6 +33,7 @@ fn print_answer<B: Reusable, W: Write>(
     unsent.put(writer, &answer[..=n])
 }
 
+/// A desk with what it holds of an input that has not ended and of answers not written yet.
 #[derive(Drop)]
 pub struct Session {
     desk: Desk,
@@ -41,6 +42,7 @@ pub struct Session {
 }
 
 impl Session {
+    /// A session before any input.
     pub fn new() -> Session
         ensures { (contents : Option (List ℕ)) (m : Ledger) → view_of result contents m ≡ at_first contents m }
     {
@@ -98,7 +100,7 @@ impl Session {
         self.end_line(book, writer, &[])
     }
 
-    // Hands to the writer all that was printed, and asks it to take_piece it on.
+    /// Hands to the writer all that was printed, and asks it to take_piece it on.
     pub fn flush<W: Write>(&mut self, writer: &mut W) -> io::Result<()>
         ensures { OnOk result ((m : Ledger) → Flushed (view_of self.old (W.contents writer.old) m) (W.contents writer.new) (view_of self.new (W.contents writer.new) m)) }
     {
@@ -106,7 +108,7 @@ impl Session {
         writer.flush()
     }
 
-    // Takes a piece of the input and lets no answer wait: whoever gave the piece has the answers before the next one is asked for.
+    /// Takes a piece of the input and lets no answer wait: whoever gave the piece has the answers before the next one is asked for.
     pub fn take_piece<B: Reusable, W: Write>(
         &mut self,
         book: &mut B,
@@ -119,7 +121,7 @@ impl Session {
         self.flush(writer)
     }
 
-    // The input has ended.
+    /// The input has ended.
     pub fn finish<B: Reusable, W: Write>(&mut self, book: &mut B, writer: &mut W) -> io::Result<()>
         ensures { OnOk result (Finished (view_of self.old (W.contents writer.old) (B.Book.meaning book.old)) (W.contents writer.new) (view_of self.new (W.contents writer.new) (B.Book.meaning book.new))) }
     {
