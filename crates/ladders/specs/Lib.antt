@@ -16,3 +16,4 @@ pub mod Products
 pub mod InBand
 pub mod Descriptions
 pub mod Orders
+pub mod Made

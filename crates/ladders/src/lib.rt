@@ -10,7 +10,5 @@ pub mod rounding;
 pub mod rungs;
 pub mod sets;
 pub mod stepping;
-#[cfg(test)]
-mod tests;
 pub mod ticks;
 pub mod worked;

@@ -77,7 +77,12 @@ fn whole(v: i64) -> Option<i64>
 impl<L: Ladder> SetOf<L> {
     /// The set of the ladders that are described, numbered in their order.
     pub fn new<D: Describes<L>>(described: &[D]) -> Result<SetOf<L>, LadderFault>
-        ensures { TakenUnless (set_fault D.Describes.fault described.now) (λ s. (s.count ≡ length described.now) × ((n : ℕ) (v : ℤ) → lawful_at L.Ladder.holds (take s.count s.ladders) n v ≡ lawful_at D.Describes.prices described.now n v)) result }
+        ensures { TakenUnless (set_fault D.Describes.fault described.now)
+            (λ s.
+            let set = ⟦<SetOf<L> as LadderSet>⟧ in
+            (set.size s ≡ length described.now)
+            × ((n : ℕ) (v : ℤ) → set.lawful s n v ≡ lawful_at D.Describes.prices described.now n v))
+            result }
     {
         let count = checked_count(described.len())?;
         // The first is checked twice, as the array needs a filler.

@@ -122,10 +122,12 @@ fn is_under(v: i64, start: i64) -> bool
 }
 
 impl SteppedLadder {
+    ghost use Rattle.ladders.specs.Made.{bands_of};
+
     /// The ladder of these bands: taken exactly if they are lawful, and otherwise refused with the first fault.
     pub fn new(bands: &[Band]) -> Result<SteppedLadder, LadderFault>
         ensures taken { Decides (is_ok result) (LawfulBands bands.now) }
-        ensures made { TakenUnless (ladder_fault bands.now) (λ l. description l.first (take l.count l.later) ≡ bands.now) result }
+        ensures made { TakenUnless (ladder_fault bands.now) (λ l. bands_of l ≡ bands.now) result }
     {
         let [head, rest @ ..] = bands else {
             return Err(LadderFault::NoBand);

@@ -21,9 +21,11 @@ pub struct Tick {
 }
 
 impl Tick {
+    ghost use Rattle.ladders.specs.Made.{points_of};
+
     /// A tick of 1 to 1,000,000 points.
     pub fn new(points: i64) -> Result<Tick, LadderFault>
-        ensures { TakenUnless (tick_fault points) (λ t. pos t.points ≡ points) result }
+        ensures { TakenUnless (tick_fault points) (λ t. pos (points_of t) ≡ points) result }
     {
         match u32::try_from(points) {
             Ok(points @ 1..=LARGEST) => Ok(Tick { points }),
@@ -33,7 +35,7 @@ impl Tick {
 
     /// Whether v is a multiple of the tick.
     pub fn divides(self, v: i64) -> bool
-        ensures { result ≡ multiple self.points v }
+        ensures { result ≡ multiple (points_of self) v }
     {
         v.unsigned_abs() % u64::from(self.points) == 0
     }

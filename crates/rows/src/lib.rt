@@ -7,5 +7,3 @@ pub mod families;
 pub mod places;
 pub mod steps;
 pub mod tables;
-#[cfg(test)]
-mod tests;

@@ -1,11 +1,11 @@
 // Examples: the worked roundings, the borders of bands from both sides, and the ends of the range of ticks at both limits.
-use crate::bands::Band;
-use crate::faults::LadderFault;
-use crate::laws::round_two;
-use crate::rounding::{Rounded, is_lawful, nearest, round};
-use crate::rungs::Ladder;
-use crate::sets::{EvenSet, LadderSet, SteppedSet};
-use crate::worked::{Way, worked_roundings};
+use ladders::bands::Band;
+use ladders::faults::LadderFault;
+use ladders::laws::round_two;
+use ladders::rounding::{Rounded, is_lawful, nearest, round};
+use ladders::rungs::Ladder;
+use ladders::sets::{EvenSet, LadderSet, SteppedSet};
+use ladders::worked::{Way, worked_roundings};
 use std::test::Fail;
 
 fn three(below: i64, nearest: i64, above: i64) -> Option<Rounded> {

@@ -1,9 +1,9 @@
 // Examples: a quarter end, and marks that mean nothing to a family.
-use crate::choosing::choose;
-use crate::families::Family;
-use crate::places::{Choice, Edition, Marks, Place};
-use crate::steps::Step;
-use crate::tables::place_at;
+use rows::choosing::choose;
+use rows::families::Family;
+use rows::places::{Choice, Edition, Marks, Place};
+use rows::steps::Step;
+use rows::tables::place_at;
 use std::test::Fail;
 
 const BOTH: Marks = Marks {
