@@ -32,7 +32,7 @@ own_series s n x f e within is same =
     ∙ ap (λ b. cond (holds x e.stamp && (b && roomy f)) (with_entry e.kind e.stamp f) f) within
 
 -- where the records of the entry's series have it as a sound one, every record is as it is to be
-pub all_series : (s w n : ℕ) (x : ℤ × ℤ) (e e' : Entry) (f g : Figures) → e' ≡ e → sound e' ≡ true → e.series ≡ pos n → g ≡ cond (in_range s w && eqb s n) (entered_sound x f e') f → g ≡ cond (in_range s w) (entered_if s x f e) f
+pub all_series : (s w n : ℕ) (x : ℤ × ℤ) (e e' : Entry) (f g : Figures) → e' ≡ e → sound e ≡ true → e.series ≡ pos n → g ≡ cond (in_range s w && eqb s n) (entered_sound x f e') f → g ≡ cond (in_range s w) (entered_if s x f e) f
 all_series s w n x e e' f g whole within is with_entry =
     with_entry
     ∙ cond_both (in_range s w) (entered_if s x f e) f (λ k. cond (in_range s w && eqb s n) (entered_sound x f e') f ≡ k)
@@ -42,7 +42,7 @@ all_series s w n x e e' f g whole within is with_entry =
     inside : cond (eqb s n) (entered_sound x f e') f ≡ entered_if s x f e
     inside =
         ⊎_elim
-        (λ p. cond-true (eqb s n) (entered_sound x f e') f (eq-eqb s n p) ∙ ap (entered_sound x f) whole ∙ sym (own_series s n x f e (ap sound (sym whole) ∙ within) is p))
+        (λ p. cond-true (eqb s n) (entered_sound x f e') f (eq-eqb s n p) ∙ ap (entered_sound x f) whole ∙ sym (own_series s n x f e within is p))
         (λ p. cond-false (eqb s n) (entered_sound x f e') f (ne_eqb s n p) ∙ sym (another_series s n x f e is p))
         (cases_eq s n)
 

@@ -10,8 +10,8 @@ use book::books::{Book, MOST, Reusable, admit};
 use book::days::Day;
 use book::entries::Entry;
 use book::faults::BookFault;
-use book::lawful::LawfulDay;
 use book::figures::Values;
+use book::lawful::LawfulDay;
 
 #[derive(Drop)]
 pub struct Board {
@@ -27,7 +27,7 @@ pub struct Board {
 impl Board {
     // An empty board for the day, of the capacity stated, cut to 30,000.
     pub fn new(day: LawfulDay, capacity: usize) -> Board
-        ensures { tabled result.day.day result.capacity result.count result.table.cells ≡ fresh day.day (min capacity 30000) }
+        ensures { ⟦<Board as Book>⟧.meaning result ≡ fresh day (min capacity 30000) }
     {
         Board {
             table: Table::empty(),
@@ -47,7 +47,7 @@ impl Board {
 }
 
 impl Book for Board {
-    ghost meaning = { λ b. tabled b.day.day b.capacity b.count b.table.cells };
+    ghost meaning = { λ b. tabled b.day b.capacity b.count b.table.cells };
 
     fn take(&mut self, entry: Entry) -> Result<(), BookFault> {
         let day = self.day();

@@ -46,7 +46,7 @@ impl Table {
 
     // A sound entry enters one record, in place, if a window with these edges holds its stamp; every other record stays.
     fn enter_at(&mut self, series: u8, window: u8, e: &SoundEntry, edges: (i64, i64))
-        ensures { (s w : ℕ) → cell self.new.cells s w ≡ (if in_range s w && (nat_eq s series && w == window) then entered_sound edges (cell self.old.cells s w) e.now.entry else cell self.old.cells s w) }
+        ensures { (s w : ℕ) → cell self.new.cells s w ≡ (if in_range s w && (nat_eq s series && w == window) then entered_sound edges (cell self.old.cells s w) e.now else cell self.old.cells s w) }
     {
         if let Some(i) = place(series, window) {
             self.cells[i].enter_sound(e, edges);
@@ -55,7 +55,7 @@ impl Table {
 
     // A sound entry enters the records of its series, window by window.
     fn enter_windows(&mut self, day: &Day, series: u8, e: &SoundEntry)
-        ensures { (s w : ℕ) → cell self.new.cells s w ≡ (if in_range s w && nat_eq s series then entered_sound (edges day.now w) (cell self.old.cells s w) e.now.entry else cell self.old.cells s w) }
+        ensures { (s w : ℕ) → cell self.new.cells s w ≡ (if in_range s w && nat_eq s series then entered_sound (edges day.now w) (cell self.old.cells s w) e.now else cell self.old.cells s w) }
     {
         let windows = windows(day);
         for window in 1..=WINDOWS {

@@ -7,8 +7,8 @@ ghost use Rattle.book.specs.Ledgers.{Ledger, Lawful, after, answer, fresh, reply
 use crate::days::Day;
 use crate::entries::{Entry, is_allowed};
 use crate::faults::BookFault;
-use crate::lawful::LawfulDay;
 use crate::figures::Values;
+use crate::lawful::LawfulDay;
 
 // No book holds more entries.
 pub const MOST: usize = 30_000;
@@ -59,5 +59,5 @@ pub trait Book {
 pub trait Reusable: Book {
     // Begins the day with an empty book, of as many places as before.
     fn begin(&mut self, day: LawfulDay)
-        ensures { Self.meaning self.new ≡ fresh day.day (Self.meaning self.old).capacity };
+        ensures { Self.meaning self.new ≡ fresh day (Self.meaning self.old).capacity };
 }

@@ -5,6 +5,7 @@ ghost use Rattle.book.specs.Figures.{empty, entered_if, latest, with_entry, ente
 
 use crate::entries::{Entry, Kind, is_kind_lawful};
 use crate::lawful::DAY_END;
+use std::marker::Model;
 
 // What the sums of 30,000 entries keep within.
 const MOST_LOTS: u64 = 3_000_000_000;
@@ -104,13 +105,26 @@ impl Deal {
 #[derive(Clone, Copy)]
 pub struct SoundEntry {
     entry: Entry,
-    ghost sound: { sound entry ≡ true },
+}
+
+impl Model for SoundEntry {
+    ghost use Rattle.std.specs.Prelude.{◌≡◌, true};
+    ghost use Rattle.book.specs.Figures.{sound};
+    ghost use Rattle.book.specs.declared.entries.Entry.{Entry};
+
+    ghost Value = { Entry };
+
+    ghost view = { λ s. s.entry };
+
+    ghost invariant = { λ s. sound s.entry ≡ true };
+
+    ghost inverse = { λ e. record { entry = e } };
 }
 
 impl SoundEntry {
     // The entry, if it is within the limits.
     pub fn new(entry: &Entry) -> Option<SoundEntry>
-        ensures { MatchOption result (sound entry.now ≡ false) (λ s. s.entry ≡ entry.now) }
+        ensures { MatchOption result (sound entry.now ≡ false) (λ s. (sound entry.now ≡ true) × (s ≡ entry.now)) }
     {
         let sound = (0..=DAY_END).contains(&entry.stamp) && is_kind_lawful(entry.kind);
         if !sound {
@@ -190,7 +204,7 @@ impl Figures {
     // A sound entry of the series enters the figures of a window with these edges, if the window holds its stamp. An entry for
     // which the sums have no room changes nothing.
     pub fn enter_sound(&mut self, e: &SoundEntry, edges: (i64, i64))
-        ensures { self.new ≡ entered_sound edges self.old e.now.entry }
+        ensures { self.new ≡ entered_sound edges self.old e.now }
     {
         let (first, last) = edges;
         if (first..=last).contains(&e.entry.stamp) && self.has_room() {

@@ -5,6 +5,7 @@ ghost use Rattle.book.specs.declared.faults.DayFault.TheVariants.{NotLawful};
 
 use crate::days::Day;
 use crate::faults::DayFault;
+use std::marker::Model;
 
 // The last second of the evening session's date, the first of the next date, and its last.
 const EVENING_END: i64 = 86_399;
@@ -16,7 +17,20 @@ pub(crate) const DAY_END: i64 = 172_799;
 #[derive(Clone, Copy)]
 pub struct LawfulDay {
     day: Day,
-    ghost lawful: { is_lawful day ≡ true },
+}
+
+impl Model for LawfulDay {
+    ghost use Rattle.std.specs.Prelude.{◌≡◌, true};
+    ghost use Rattle.book.specs.Days.{is_lawful};
+    ghost use Rattle.book.specs.declared.days.Day.{Day};
+
+    ghost Value = { Day };
+
+    ghost view = { λ l. l.day };
+
+    ghost invariant = { λ l. is_lawful l.day ≡ true };
+
+    ghost inverse = { λ d. record { day = d } };
 }
 
 fn is_lawful(day: &Day) -> bool
@@ -33,7 +47,7 @@ fn is_lawful(day: &Day) -> bool
 impl LawfulDay {
     // The day record, if it is lawful. `TryFrom` would read no plainer: `LawfulDay::new` says what is made.
     pub fn new(day: Day) -> Result<LawfulDay, DayFault>
-        ensures { MatchResult result (λ l. (is_lawful day ≡ true) × (l.day ≡ day)) (λ f. (is_lawful day ≡ false) × (f ≡ NotLawful)) }
+        ensures { MatchResult result (λ l. (is_lawful day ≡ true) × (l ≡ day)) (λ f. (is_lawful day ≡ false) × (f ≡ NotLawful)) }
     {
         if !is_lawful(&day) {
             return Err(DayFault::NotLawful);
@@ -43,7 +57,7 @@ impl LawfulDay {
 
     // The least lawful day, for a book that waits for a day to begin.
     pub fn least() -> LawfulDay
-        ensures { result.day ≡ least_day }
+        ensures { result ≡ least_day }
     {
         LawfulDay {
             day: Day {
@@ -58,7 +72,7 @@ impl LawfulDay {
 
     // The five numbers.
     pub fn day(&self) -> Day
-        ensures value { result ≡ self.now.day }
+        ensures value { result ≡ self.now }
         ensures lawful { is_lawful result ≡ true }
     {
         self.day

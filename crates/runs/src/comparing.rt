@@ -99,7 +99,7 @@ pub fn compare_makes<K: LadderSet + Drop, L: LadderSet + Drop>(
     series: i64,
     edition: Edition,
 ) -> Answers
-    ensures laws { Laws (Alike (new_run K.LadderSet.size K.LadderSet.lawful set day.day (min capacity 30000) calls.now) (new_run L.LadderSet.size L.LadderSet.lawful other_set day.day (min (length slots.old) 30000) other_calls.now) series edition) (new_run K.LadderSet.size K.LadderSet.lawful set day.day (min capacity 30000) calls.now) (new_run L.LadderSet.size L.LadderSet.lawful other_set day.day (min (length slots.old) 30000) other_calls.now) series edition result.0 result.1 }
+    ensures laws { Laws (Alike (new_run K.LadderSet.size K.LadderSet.lawful set day (min capacity 30000) calls.now) (new_run L.LadderSet.size L.LadderSet.lawful other_set day (min (length slots.old) 30000) other_calls.now) series edition) (new_run K.LadderSet.size K.LadderSet.lawful set day (min capacity 30000) calls.now) (new_run L.LadderSet.size L.LadderSet.lawful other_set day (min (length slots.old) 30000) other_calls.now) series edition result.0 result.1 }
 {
     let mut house = House::new(set);
     let mut board = Board::new(day, capacity);

@@ -10,8 +10,8 @@ use book::books::{Book, MOST, Reusable, admit};
 use book::days::Day;
 use book::entries::{Entry, Kind};
 use book::faults::BookFault;
-use book::lawful::LawfulDay;
 use book::figures::Values;
+use book::lawful::LawfulDay;
 use book::windows::edges;
 
 // What may fill the places that a tape is lent: it reads none of them before it has stored an entry there.
@@ -39,7 +39,7 @@ pub struct Tape<'a> {
 impl<'a> Tape<'a> {
     // An empty tape for the day: it has as many places as it is lent, and at most 30,000.
     pub fn new(day: LawfulDay, slots: &'a mut [Entry]) -> Tape<'a>
-        ensures { recorded result.day (min (length result.slots.now) 30000) (take result.count result.slots.now) ≡ fresh day.day (min (length slots.old) 30000) }
+        ensures { ⟦<Tape<'a> as Book>⟧.meaning result ≡ fresh day (min (length slots.old) 30000) }
     {
         Tape {
             slots,

@@ -7,7 +7,7 @@ use Rattle.runs.proofs.comparing.compare_makes.Goals as goal
 pub returns : goal.returns
 returns g c =
     let x = c.args in
-    let d = x.day.day in
+    let d = x.day in
     let j = min x.capacity 30000 in
     let k = min (length x.slots.now) 30000 in
     let first = begun g.K.LadderSet.size g.K.LadderSet.lawful c.new-house.result _ x.set d j x.calls.now c.new-house.ensures.state c.new-house.ensures.set c.new-board.ensures in

@@ -1,3 +1,5 @@
+use Rattle.std.proofs.Common.{sym, ap, ◌∙◌}
+use Rattle.book.specs.Days.{is_lawful}
 use Rattle.board.proofs.Places.{cell_outside}
 use Rattle.board.proofs.boards.BoardBook.day.Goals as goal
 
@@ -5,7 +7,7 @@ pub returns-clause-lawful : goal.returns-clause-lawful
 returns-clause-lawful c =
     let b = c.args.self.now in
     record {
-      lawful_day = b.day.lawful;
+      lawful_day = ap is_lawful (sym c.day.ensures.value) ∙ c.day.ensures.lawful;
       most = b.most;
       room = b.room;
       bounds = b.bounds;

@@ -5,10 +5,10 @@ pub invariant_of-self-clause-bounds : goal.invariant_of-self-clause-bounds
 invariant_of-self-clause-bounds c =
     let b = c.args.self.now in
     let day = c.day-day.ensures in
-    (takes b.day.day _ b.capacity b.count _ _ b.table.cells c.enter_all.new.self.cells c.args.entry day.lawful day.value c.from.ensures c.from-2.ensures c.in_ok-admit.ensures c.enter_all.ensures).bounds
+    (takes b.day _ b.capacity b.count _ _ b.table.cells c.enter_all.new.self.cells c.args.entry day.lawful day.value c.from.ensures c.from-2.ensures c.in_ok-admit.ensures c.enter_all.ensures).bounds
 
 pub returns-clause-after : goal.returns-clause-after
 returns-clause-after c =
     let b = c.args.self.now in
     let day = c.day-day.ensures in
-    (takes b.day.day _ b.capacity b.count _ _ b.table.cells c.enter_all.new.self.cells c.args.entry day.lawful day.value c.from.ensures c.from-2.ensures c.in_ok-admit.ensures c.enter_all.ensures).after
+    (takes b.day _ b.capacity b.count _ _ b.table.cells c.enter_all.new.self.cells c.args.entry day.lawful day.value c.from.ensures c.from-2.ensures c.in_ok-admit.ensures c.enter_all.ensures).after

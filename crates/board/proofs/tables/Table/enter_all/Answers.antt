@@ -12,7 +12,7 @@ returns-in-Ok c s w =
     let fits : SFits w64 e.series = search rules in
     let h : FitsUnsignedBits 8 (to_z w64 (of_z w64 e.series)) × (c.in-Ok.series ≡ nat_abs (to_z w64 (of_z w64 e.series))) = c.in-Ok.ensures in
     let named : e.series ≡ pos c.in-Ok.series = grind (arith, h, to_z-of_z w64 e.series fits) in
-    all_series s w c.in-Ok.series (edges c.args.day.now w) e c.in-Some.sound.entry (cell c.args.self.now.cells s w) (cell c.enter_windows.new.self.cells s w) c.in-Some.ensures c.in-Some.sound.sound named (c.enter_windows.ensures s w)
+    all_series s w c.in-Ok.series (edges c.args.day.now w) e c.in-Some.sound (cell c.args.self.now.cells s w) (cell c.enter_windows.new.self.cells s w) c.in-Some.ensures.1 c.in-Some.ensures.0 named (c.enter_windows.ensures s w)
 
 pub returns-in_default-try_from : goal.returns-in_default-try_from
 returns-in_default-try_from c s w =

@@ -8,7 +8,7 @@ use Rattle.board.proofs.tables.Table.enter_windows.Goals as goal
 
 pub loop-window-preserved : goal.loop-window-preserved
 loop-window-preserved c s w =
-    let e = c.args.e.now.entry in
+    let e = c.args.e.now in
     let f = cell c.loop-window.self.cells s w in
     let xs = c.windows-windows.result in
     let i = c.from.result in
