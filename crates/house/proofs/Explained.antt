@@ -7,7 +7,7 @@ use Rattle.rows.specs.Codes.{at}
 use Rattle.rows.specs.declared.places.Edition.{Edition}
 use Rattle.rows.specs.declared.places.Place.{Place}
 use Rattle.rows.specs.declared.steps.Step as steps
-use Rattle.house.specs.Answers.{Answer, answered, by_row, first_found, or_later, or_refused, origin, origin_of, price_of, references, row_of, ruled_first, settled, answer_at, some_refers, station}
+use Rattle.house.specs.Answers.{Answer, answered, by_row, first_found, or_later, or_refused, origin, origin_of, price_of, references, row_of, ruled_first, path_answer, answer_at, some_refers, station}
 use Rattle.house.specs.Calls.{State, demand}
 use Rattle.house.specs.Found.{Station, found}
 use Rattle.house.specs.Meaning.{Explained, Refused, Settles, is_first, is_refused, reference_answer}
@@ -131,9 +131,9 @@ module _ (P : ℕ → ℤ → Bool) (ed : Edition) where
             (λ first. inl (record { ruling = r; stands = is; first = first; price = refl; step = refl; place = refl }))
             (λ after. by_row_explained (ap is_first is ∙ after))
 
-  pub explains : (x : Station) (xs : List Station) → Settles P ed x xs (settled P ed x xs)
+  pub explains : (x : Station) (xs : List Station) → Settles P ed x xs (path_answer P ed x xs)
   explains x [] = answered_explained x [] tt
-  explains x (y ∷ ys) = answered_explained x (y ∷ ys) (settles_behind y ys (settled P ed y ys) (explains y ys))
+  explains x (y ∷ ys) = answered_explained x (y ∷ ys) (settles_behind y ys (path_answer P ed y ys) (explains y ys))
 
 -- ---- what the house tells
 

@@ -6,3 +6,7 @@ use Rattle.house.specs.declared.houses.House.{House}
 -- `bound` is what it gives that L is a ladder set, here and wherever a house is named
 abbrev pub state : {L : Type 0} {bound : _} → House L bound → State
 state h = record { phase = h.phase; roll = roll h.listed.count h.listed.slots }
+
+-- its ladder set
+abbrev pub set_of : {L : Type 0} {bound : _} → House L bound → L
+set_of h = h.set

@@ -6,7 +6,7 @@ use Rattle.rows.specs.Codes.{at}
 use Rattle.rows.specs.declared.places.Edition.{Edition}
 use Rattle.rows.specs.declared.places.Place.{Place}
 use Rattle.rows.specs.declared.steps.Step as steps
-use Rattle.house.specs.Answers.{Answer, price_of, references, row_of, settled, some_refers, station}
+use Rattle.house.specs.Answers.{Answer, price_of, references, row_of, path_answer, some_refers, station}
 use Rattle.house.specs.Calls.{State}
 use Rattle.house.specs.Found.{Station, found}
 use Rattle.house.specs.declared.answers.Settlement.{Settlement}
@@ -27,7 +27,7 @@ pub record StandsAt (find : Place → Option ℤ) (ps : List Place) (s : Settlem
 -- the answer of the stations behind, if any
 abbrev pub reference_answer : (ℕ → ℤ → Bool) → Edition → List Station → Option Answer
 reference_answer lawful ed [] = None
-reference_answer lawful ed (y ∷ ys) = Some (settled lawful ed y ys)
+reference_answer lawful ed (y ∷ ys) = Some (path_answer lawful ed y ys)
 
 -- whether a ruling stands with the first mark
 abbrev pub is_first : Option Ruling → Bool
