@@ -5,8 +5,8 @@ use Rattle.book.specs.Ledgers.{Ledger, grown}
 use Rattle.house.specs.Calls.{State, entry_answer, listed_terms, moved, ruling_answer, rung, theory_answer, ok_with}
 use Rattle.house.specs.declared.faults.HouseFault.{HouseFault}
 use Rattle.calls.specs.Worlds.{World, as_listed, is_taken, next}
-use Rattle.runs.specs.declared.calls.Call.{Call}
-use Rattle.runs.specs.declared.calls.Call.TheVariants.{List as ListCall, Ring, Enter, SetTheory, SetRuling, Settle}
+use Rattle.calls.specs.declared.call.Call.{Call}
+use Rattle.calls.specs.declared.call.Call.TheVariants.{List as ListCall, Ring, Enter, SetTheory, SetRuling, Settle}
 
 -- ---- an answer wrapped up is refused where the answer is
 
