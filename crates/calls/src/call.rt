@@ -5,32 +5,53 @@ use house::phases::Bell;
 use house::terms::Listing;
 use rows::places::Edition;
 
+/// A call of a house. A series is named by its number, which the house may not have listed.
 #[derive(Clone, Copy, PartialEq, Eq, Debug)]
 pub enum Call {
+    /// Lists a series on these terms.
     List(Listing),
+    /// Begins or ends trading.
     Ring(Bell),
+    /// Enters an entry in the book.
     Enter(Entry),
+    /// Supplies the theory value of a series, or clears it.
     SetTheory {
+        /// The number of the series.
         series: i64,
+        /// In points; `None` clears.
         value: Option<i64>,
     },
-    // A value and a mark beside it, since a cleared ruling with a mark is a call too, and refused.
+    /// Supplies the ruling of a series, or clears it. Value and mark are two fields, since a cleared ruling with a mark is a call
+    /// too, and refused.
     SetRuling {
+        /// The number of the series.
         series: i64,
+        /// In points; `None` clears.
         value: Option<i64>,
+        /// Whether the ruling comes before the row of steps, with nothing else looked at.
         first: bool,
     },
+    /// Asks for the settlement price of a series.
     Settle {
+        /// The number of the series.
         series: i64,
+        /// The edition for which it is asked.
         edition: Edition,
     },
 }
 
+/// What a call that is not refused replies.
 #[derive(Clone, Copy, PartialEq, Eq, Debug)]
 pub enum Reply {
+    /// The call was carried out, and there is nothing to tell of it.
     Done,
-    // The number of the series.
+    /// The number under which a series was listed.
     Listed(u8),
-    // The series as the question named it, and its settlement.
-    Settled { series: i64, settlement: Settlement },
+    /// The answer to a question.
+    Settled {
+        /// The series as the question named it.
+        series: i64,
+        /// Its price, and the step and place that decided.
+        settlement: Settlement,
+    },
 }

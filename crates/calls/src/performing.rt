@@ -1,5 +1,6 @@
 // One call made on a house and its book.
-ghost use Rattle.std.specs.Prelude.{◌≡◌, IfErr};
+ghost use Rattle.std.specs.Prelude.{◌≡◌, OnErr};
+ghost use Rattle.house.specs.Houses.{set_of};
 ghost use Rattle.calls.specs.Worlds.{next, reply, world};
 
 use crate::call::{Call, Reply};
@@ -8,16 +9,20 @@ use house::faults::HouseFault;
 use house::houses::House;
 use ladders::sets::LadderSet;
 
-// Makes one call. House and book are two parameters, as for the house's own calls: the book is lent to each.
+/// Makes one call. House and book are two parameters, as for the house's own calls: the book is lent to each.
+///
+/// An error is the fault for which the house refuses the call (RULES.md has their order); house and book are then as they were.
 pub fn perform<L: LadderSet, B: Book>(
     house: &mut House<L>,
     book: &mut B,
     call: &Call,
 ) -> Result<Reply, HouseFault>
-    ensures answer { result ≡ reply (L.LadderSet.size house.old.set) (L.LadderSet.lawful house.old.set) call.now (world house.old (B.Book.meaning book.old)) }
-    ensures after { world house.new (B.Book.meaning book.new) ≡ next (L.LadderSet.size house.old.set) (L.LadderSet.lawful house.old.set) call.now (world house.old (B.Book.meaning book.old)) }
-    ensures set { house.new.set ≡ house.old.set }
-    ensures refused { IfErr result (λ _. world house.new (B.Book.meaning book.new) ≡ world house.old (B.Book.meaning book.old)) }
+    ensures answer { let before = world house.old (B.meaning book.old) in
+        result ≡ reply (L.size (set_of house.old)) (L.lawful (set_of house.old)) call.now before }
+    ensures after { let before = world house.old (B.meaning book.old) in
+        world house.new (B.meaning book.new) ≡ next (L.size (set_of house.old)) (L.lawful (set_of house.old)) call.now before }
+    ensures set { set_of house.new ≡ set_of house.old }
+    ensures refused { OnErr result (world house.new (B.meaning book.new) ≡ world house.old (B.meaning book.old)) }
 {
     // A match, and no table of functions: the calls are closed, and have different parts.
     match *call {
