@@ -1,10 +1,12 @@
-// Why the house refuses a call, and the number that each refusal is known by.
-ghost use Rattle.std.specs.Prelude.{◌≡◌};
-ghost use Rattle.house.specs.Faults.{house_number};
+// Why the house refuses a call: the number that each refusal is known by, and its text.
+ghost use Rattle.std.specs.Prelude.{◌≡◌, Some};
+ghost use Rattle.house.specs.Faults.{house_number, house_reason};
 ghost use Rattle.house.specs.declared.faults.HouseFault.TheVariants as refused;
 
 use book::faults::BookFault;
 use rows::families::NoSuchFamily;
+use std::error::Error;
+use std::fmt;
 
 /// Why the house refuses a call.
 #[derive(Clone, Copy, PartialEq, Eq, Debug)]
@@ -30,7 +32,7 @@ pub enum HouseFault {
 }
 
 impl HouseFault {
-    /// A method, since a From to u8 would not say what the number is.
+    /// The number that the refusal is known by, 2 to 10. A method, since a From to u8 would not say what the number is.
     pub fn number(self) -> u8
         ensures { result ≡ house_number self }
     {
@@ -47,6 +49,26 @@ impl HouseFault {
         }
     }
 }
+
+impl fmt::Display for HouseFault {
+    ghost output = { λ f. Some (house_reason f) };
+
+    fn fmt<W: fmt::Write>(&self, f: &mut fmt::Formatter<W>) -> fmt::Result {
+        match *self {
+            HouseFault::WrongPhase => write!(f, "the phase does not allow it"),
+            HouseFault::SeriesFull => write!(f, "32 series are listed"),
+            HouseFault::NoSuchSeries => write!(f, "no such series"),
+            HouseFault::TermsNotLawful => write!(f, "the terms are not lawful"),
+            HouseFault::SuppliedBeyondLimits => write!(f, "a supplied value is not lawful"),
+            HouseFault::OffLadder => write!(f, "a price is not on its ladder"),
+            HouseFault::SpreadNotFollowing => write!(f, "a spread for a series outside family 2"),
+            HouseFault::NoPrice(origin) => write!(f, "no step finds a price for series {origin}"),
+            HouseFault::Book(fault) => write!(f, "{fault}"),
+        }
+    }
+}
+
+impl Error for HouseFault {}
 
 impl From<BookFault> for HouseFault {
     ghost from_gives = { λ f r. r ≡ refused.Book f };
