@@ -25,9 +25,9 @@ rest_from xs ys i j h e =
 added_both : (old s mid t new : List ℕ) (at end last : ℕ) → Added old at s mid end → Added mid end t new last → Added old at (s ++ t) new last
 added_both old s mid t new at end last a b =
     record {
-      told = omega (arith, length-append s t, a.told, b.told);
+      ends = omega (arith, length-append s t, a.ends, b.ends);
       front = b.front ∙ ap (λ xs. xs ++ t) a.front ∙ append_assoc (take at old) s t;
-      rest = b.rest ∙ rest_from mid old end last (omega (arith, b.told)) a.rest;
+      rest = b.rest ∙ rest_from mid old end last (omega (arith, b.ends)) a.rest;
     }
 
 -- a space and a field
@@ -40,7 +40,7 @@ added_part old bytes part at h e =
     let k = at + length bytes - at in
     let n : length part ≡ k = omega (arith, ap length e) in
     record {
-      told = refl;
+      ends = refl;
       front = take-put_mid at k old part (at + length bytes) (omega arith) (omega arith) ∙ ap (λ xs. take at old ++ xs) e;
       rest = drop-put_mid at k old part (at + length bytes) (omega arith) (omega arith) n;
     }
@@ -48,7 +48,7 @@ added_part old bytes part at h e =
 -- a whole text, which is a line of at most 96 bytes
 begins : (r : Result Reply LineFault) (old new : List ℕ) (end : ℕ) → Typed r → Added old 0 (answer_text r) new end → Begins old (answer_text r) new end
 begins r old new end t a =
-    record { added = a; short = omega (arith, a.told, text_short r t); one_line = one_line r t }
+    record { added = a; short = omega (arith, a.ends, text_short r t); one_line = one_line r t }
 
 -- behind the last field nothing is added
 added_last : (old t new : List ℕ) (at end : ℕ) → Added old at t new end → Added old at (t ++ []) new end
@@ -58,7 +58,7 @@ added_last old t new at end a = rw (append-nil t) a
 pub replied : (text old new : List ℕ) (end : ℕ) → 96 ≤ length old → Begins old text new end → Replied text old (Ok end) new
 replied text old new end h b =
     let a = b.added in
-    let n : end ≡ length text = omega (arith, a.told) in
+    let n : end ≡ length text = omega (arith, a.ends) in
     record {
       short = λ l. absurd (omega arith);
       long = λ l. (ap (λ k. Ok k) n, sym (take-append-drop end new) ∙ ap (λ xs. xs ++ drop end new) a.front ∙ ap (λ xs. text ++ xs) a.rest ∙ ap (λ k. text ++ drop k old) n);
@@ -66,16 +66,16 @@ replied text old new end h b =
 
 -- ---- the answers, field by field
 
-pub told_done : (old new : List ℕ) (end : ℕ) → Added old 0 (codes "done") new end → Begins old (answer_text (Ok Done)) new end
-told_done old new end a = begins (Ok Done) old new end tt a
+pub begins_done : (old new : List ℕ) (end : ℕ) → Added old 0 (codes "done") new end → Begins old (answer_text (Ok Done)) new end
+begins_done old new end a = begins (Ok Done) old new end tt a
 
-pub told_listed : (old mid new : List ℕ) (at end n : ℕ) → Added old 0 (codes "listed") mid at → Added mid at (32 ∷ decimal n) new end → n < 2 ^ 8 → Begins old (answer_text (Ok (Listed n))) new end
-told_listed old mid new at end n a b h =
+pub begins_listed : (old mid new : List ℕ) (at end n : ℕ) → Added old 0 (codes "listed") mid at → Added mid at (32 ∷ decimal n) new end → n < 2 ^ 8 → Begins old (answer_text (Ok (Listed n))) new end
+begins_listed old mid new at end n a b h =
     begins (Ok (Listed n)) old new end h
     (added_both old (codes "listed") mid _ new 0 at end a (added_last mid (32 ∷ decimal n) new at end b))
 
-pub told_price : (old m1 m2 m3 m4 new : List ℕ) (a1 a2 a3 a4 end l : ℕ) (z : ℤ) (s : Settlement) → Added old 0 (codes "price") m1 a1 → Added m1 a1 (32 ∷ signed_decimal z) m2 a2 → Added m2 a2 (32 ∷ signed_decimal s.price) m3 a3 → Added m3 a3 (32 ∷ l ∷ []) m4 a4 → l ≡ letter s.step → Added m4 a4 (32 ∷ decimal s.place) new end → SFits w64 z → SFits w64 s.price → s.place < 2 ^ 8 → Begins old (answer_text (Ok (Settled z s))) new end
-told_price old m1 m2 m3 m4 new a1 a2 a3 a4 end l z s a b c d e f g h i =
+pub begins_price : (old m1 m2 m3 m4 new : List ℕ) (a1 a2 a3 a4 end l : ℕ) (z : ℤ) (s : Settlement) → Added old 0 (codes "price") m1 a1 → Added m1 a1 (32 ∷ signed_decimal z) m2 a2 → Added m2 a2 (32 ∷ signed_decimal s.price) m3 a3 → Added m3 a3 (32 ∷ l ∷ []) m4 a4 → l ≡ letter s.step → Added m4 a4 (32 ∷ decimal s.place) new end → SFits w64 z → SFits w64 s.price → s.place < 2 ^ 8 → Begins old (answer_text (Ok (Settled z s))) new end
+begins_price old m1 m2 m3 m4 new a1 a2 a3 a4 end l z s a b c d e f g h i =
     let step : Added m3 a3 (32 ∷ letter s.step ∷ []) m4 a4 = rw (sym e) d in
     begins (Ok (Settled z s)) old new end (g, h, i)
     (added_both old (codes "price") m1 _ new 0 a1 end a
@@ -84,15 +84,15 @@ told_price old m1 m2 m3 m4 new a1 a2 a3 a4 end l z s a b c d e f g h i =
     (added_both m3 (32 ∷ letter s.step ∷ []) m4 _ new a3 a4 end step
     (added_last m4 (32 ∷ decimal s.place) new a4 end f)))))
 
-pub told_refused : (old mid new : List ℕ) (at end n : ℕ) (f : LineFault) → Added old 0 (codes "refused") mid at → Added mid at (32 ∷ decimal n) new end → n ≡ line_number f → None ≡ line_detail f → Begins old (answer_text (Err f)) new end
-told_refused old mid new at end n f a b e d =
+pub begins_refused : (old mid new : List ℕ) (at end n : ℕ) (f : LineFault) → Added old 0 (codes "refused") mid at → Added mid at (32 ∷ decimal n) new end → n ≡ line_number f → None ≡ line_detail f → Begins old (answer_text (Err f)) new end
+begins_refused old mid new at end n f a b e d =
     let typed : Typed (Err f) = rw (sym d) tt in
     begins (Err f) old new end typed
     (rw (sym e, sym d)
     (added_both old (codes "refused") mid _ new 0 at end a (added_last mid (32 ∷ decimal n) new at end b)))
 
-pub told_detail : (old m1 m2 new : List ℕ) (a1 a2 end n k : ℕ) (f : LineFault) → Added old 0 (codes "refused") m1 a1 → Added m1 a1 (32 ∷ decimal n) m2 a2 → n ≡ line_number f → Added m2 a2 (32 ∷ decimal k) new end → Some k ≡ line_detail f → k < 2 ^ 8 → Begins old (answer_text (Err f)) new end
-told_detail old m1 m2 new a1 a2 end n k f a b e c d h =
+pub begins_detail : (old m1 m2 new : List ℕ) (a1 a2 end n k : ℕ) (f : LineFault) → Added old 0 (codes "refused") m1 a1 → Added m1 a1 (32 ∷ decimal n) m2 a2 → n ≡ line_number f → Added m2 a2 (32 ∷ decimal k) new end → Some k ≡ line_detail f → k < 2 ^ 8 → Begins old (answer_text (Err f)) new end
+begins_detail old m1 m2 new a1 a2 end n k f a b e c d h =
     let typed : Typed (Err f) = rw (sym d) h in
     begins (Err f) old new end typed
     (rw (sym e, sym d)

@@ -1,8 +1,9 @@
--- The number that each refusal of a line is known by, and what is told beside it.
-use Rattle.std.specs.Prelude.{ℕ, Some, None, Option}
-use Rattle.book.specs.Faults.{day_number}
-use Rattle.ladders.specs.Faults.{number}
-use Rattle.house.specs.Faults.{house_number}
+-- The number that each refusal of a line is known by, what is told beside it, and its text.
+use Rattle.std.specs.Prelude.{ℕ, List, Some, None, codes, Option}
+use Rattle.book.specs.Faults.{day_number, day_reason}
+use Rattle.ladders.specs.Faults.{ladder_number, ladder_reason}
+use Rattle.house.specs.Faults.{house_number, house_reason}
+use Rattle.lines.specs.Faults.{not_read_reason}
 use Rattle.house.specs.declared.faults.HouseFault.{HouseFault}
 use Rattle.house.specs.declared.faults.HouseFault.TheVariants as house
 use Rattle.answers.specs.declared.faults.LineFault.{LineFault}
@@ -12,7 +13,7 @@ abbrev pub line_number : LineFault → ℕ
 line_number NoDay = 2
 line_number SecondDay = 2
 line_number (Day f) = day_number f
-line_number (Ladders f) = number f
+line_number (Ladders f) = ladder_number f
 line_number (House f) = house_number f
 line_number (NotRead e) = 11
 line_number ShortBuffer = 12
@@ -38,3 +39,13 @@ line_detail (Ladders f) = None
 line_detail (House f) = house_origin f
 line_detail (NotRead e) = Some e.place
 line_detail ShortBuffer = None
+
+-- what is wrong, as a clerk reads it
+abbrev pub line_reason : LineFault → List ℕ
+line_reason NoDay = codes "no day line was taken yet"
+line_reason SecondDay = codes "a further day line"
+line_reason (Day f) = day_reason f
+line_reason (Ladders f) = ladder_reason f
+line_reason (House f) = house_reason f
+line_reason (NotRead e) = not_read_reason e
+line_reason ShortBuffer = codes "the buffer for the answer has fewer than 96 bytes"

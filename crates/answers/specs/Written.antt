@@ -14,7 +14,7 @@ pub record Replied (text old : List ℕ) (r : Result ℕ LineFault) (new : List 
 
 -- the bytes stand from a place to an end, and all else is as it was
 pub record Added (old : List ℕ) (at : ℕ) (bytes new : List ℕ) (end : ℕ) : Type 0 where
-  pub told : end ≡ at + length bytes
+  pub ends : end ≡ at + length bytes
   pub front : take end new ≡ take at old ++ bytes
   pub rest : drop end new ≡ drop end old
 

@@ -1,12 +1,14 @@
-// Why a line is refused, the number that each refusal is known by, and what is told beside the number.
-ghost use Rattle.std.specs.Prelude.{◌≡◌, ◌⊎◌, ◌↔◌, IsSome};
-ghost use Rattle.answers.specs.Faults.{line_detail, line_number};
+// Why a line is refused: the number that each refusal is known by, what is told beside the number, and its text.
+ghost use Rattle.std.specs.Prelude.{◌≡◌, ◌⊎◌, ◌↔◌, IsSome, Some};
+ghost use Rattle.answers.specs.Faults.{line_detail, line_number, line_reason};
 ghost use Rattle.answers.specs.declared.faults.LineFault.TheVariants as refused;
 
 use book::faults::DayFault;
 use house::faults::HouseFault;
 use ladders::faults::LadderFault;
 use lines::faults::NotRead;
+use std::error::Error;
+use std::fmt;
 
 /// Why a line is refused.
 #[derive(Clone, Copy, PartialEq, Eq, Debug)]
@@ -28,7 +30,7 @@ pub enum LineFault {
 }
 
 impl LineFault {
-    /// A method, since a From to u8 would not say what the number is.
+    /// The number that the refusal is known by, 1 to 13. A method, since a From to u8 would not say what the number is.
     pub fn number(self) -> u8
         ensures { result ≡ line_number self }
     {
@@ -54,6 +56,24 @@ impl LineFault {
         }
     }
 }
+
+impl fmt::Display for LineFault {
+    ghost output = { λ f. Some (line_reason f) };
+
+    fn fmt<W: fmt::Write>(&self, f: &mut fmt::Formatter<W>) -> fmt::Result {
+        match *self {
+            LineFault::NoDay => write!(f, "no day line was taken yet"),
+            LineFault::SecondDay => write!(f, "a further day line"),
+            LineFault::Day(fault) => write!(f, "{fault}"),
+            LineFault::Ladders(fault) => write!(f, "{fault}"),
+            LineFault::House(fault) => write!(f, "{fault}"),
+            LineFault::NotRead(refusal) => write!(f, "{refusal}"),
+            LineFault::ShortBuffer => write!(f, "the buffer for the answer has fewer than 96 bytes"),
+        }
+    }
+}
+
+impl Error for LineFault {}
 
 impl From<DayFault> for LineFault {
     ghost from_gives = { λ f r. r ≡ refused.Day f };

@@ -53,7 +53,7 @@ fn put_number<I: Integer>(out: &mut [u8], at: usize, number: I) -> usize
     put_field(out, at, buffer.format(number).as_bytes())
 }
 
-#[tactic(auto, using(crate::proofs::Adding::told_done))]
+#[tactic(auto, using(crate::proofs::Adding::begins_done))]
 fn put_done(out: &mut [u8]) -> usize
     requires { 96 ≤ length out.old }
     ensures { Begins out.old (answer_text (Ok Reply.Done)) out.new result }

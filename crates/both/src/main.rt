@@ -7,7 +7,7 @@ mod reading;
 mod showing;
 
 use crate::reading::{Opening, call_of, opening_of};
-use crate::showing::{Replied, Told};
+use crate::showing::{Replied, Shown};
 use anyhow::anyhow;
 use board::boards::Board;
 use book::books::Book;
@@ -111,7 +111,7 @@ fn answer_question(
     match sets(ticks) {
         Ok(makes) => {
             let (a, b) = ask(day, makes, calls, series, edition);
-            println!(rt; "series {series} {edition}: {} | {}", Told(a), Told(b))?;
+            println!(rt; "series {series} {edition}: {} | {}", Shown(a), Shown(b))?;
             Ok(())
         }
         Err(fault) => refuse(rt, fault.number()),

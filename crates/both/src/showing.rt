@@ -28,7 +28,7 @@ impl fmt::Display for Replied {
         match self.0 {
             Ok(Reply::Done) => write!(f, "done"),
             Ok(Reply::Listed(number)) => write!(f, "listed {number}"),
-            Ok(Reply::Settled { settlement, .. }) => write!(f, "{}", Told(Ok(settlement))),
+            Ok(Reply::Settled { settlement, .. }) => write!(f, "{}", Shown(Ok(settlement))),
             Err(fault) => write!(f, "{}", Refusal(fault)),
         }
     }
@@ -36,9 +36,9 @@ impl fmt::Display for Replied {
 
 // What the question for a price was answered: the price, the letter of its step, and the step's place.
 #[derive(Clone, Copy)]
-pub(crate) struct Told(pub(crate) Result<Settlement, HouseFault>);
+pub(crate) struct Shown(pub(crate) Result<Settlement, HouseFault>);
 
-impl fmt::Display for Told {
+impl fmt::Display for Shown {
     fn fmt<W: fmt::Write>(&self, f: &mut fmt::Formatter<W>) -> fmt::Result {
         match self.0 {
             Ok(found) => {

@@ -103,7 +103,7 @@ impl<'a> Bench<'a> {
     }
 
     // Answers all lines. Now and then a line comes with a short buffer first, which must change nothing.
-    pub(crate) fn hear(
+    pub(crate) fn answer_all(
         &mut self,
         rt: &HostRuntime,
         lines: &[Vec<u8>],

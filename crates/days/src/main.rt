@@ -35,7 +35,7 @@ fn run_day(rt: &HostRuntime, seed: u64, tally: &mut Tally) -> anyhow::Result<()>
     let capacity = capacity_of(seed).min(PLACES);
     let mut slots = [BLANK; PLACES];
     let mut bench = Bench::new(rt.alloc(), &mut slots[..capacity]);
-    if let Err(error) = bench.hear(rt, plan.lines(), tally) {
+    if let Err(error) = bench.answer_all(rt, plan.lines(), tally) {
         println!(rt; "day {seed}")?;
         return Err(error);
     }

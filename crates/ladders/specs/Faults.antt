@@ -4,20 +4,20 @@ use Rattle.ladders.specs.declared.faults.LadderFault.{LadderFault}
 use Rattle.ladders.specs.declared.faults.LadderFault.TheVariants.{NoLadder, TooManyLadders, NoBand, TooManyBands, TickOutOfRange, StartMisplaced, StartOutOfRange, StartsNotRising, StartOffTick}
 
 -- a set that is not lawful is refused with 13, whatever is wrong with it
-abbrev pub number : LadderFault → ℕ
-number f = 13
+abbrev pub ladder_number : LadderFault → ℕ
+ladder_number f = 13
 
 -- what is wrong, as a clerk reads it
-abbrev pub reason : LadderFault → List ℕ
-reason NoLadder = codes "no ladder"
-reason TooManyLadders = codes "more than 16 ladders"
-reason NoBand = codes "no band"
-reason TooManyBands = codes "more than 4 bands"
-reason TickOutOfRange = codes "a tick is not 1 to 1000000"
-reason StartMisplaced = codes "a start without its tick"
-reason StartOutOfRange = codes "a start is beyond the price limit"
-reason StartsNotRising = codes "the starts do not rise"
-reason StartOffTick = codes "a start is no multiple of its own tick and the tick before"
+abbrev pub ladder_reason : LadderFault → List ℕ
+ladder_reason NoLadder = codes "no ladder"
+ladder_reason TooManyLadders = codes "more than 16 ladders"
+ladder_reason NoBand = codes "no band"
+ladder_reason TooManyBands = codes "more than 4 bands"
+ladder_reason TickOutOfRange = codes "a tick is not 1 to 1000000"
+ladder_reason StartMisplaced = codes "a start without its tick"
+ladder_reason StartOutOfRange = codes "a start is beyond the price limit"
+ladder_reason StartsNotRising = codes "the starts do not rise"
+ladder_reason StartOffTick = codes "a start is no multiple of its own tick and the tick before"
 
 -- the first fault, if there is one
 abbrev pub or_else : Option LadderFault → Option LadderFault → Option LadderFault

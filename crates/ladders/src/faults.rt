@@ -1,6 +1,6 @@
 // Why a ladder, or a set of ladders, is not lawful.
 ghost use Rattle.std.specs.Prelude.{◌≡◌, Some};
-ghost use Rattle.ladders.specs.Faults.{number, reason};
+ghost use Rattle.ladders.specs.Faults.{ladder_number, ladder_reason};
 
 use std::error::Error;
 use std::fmt;
@@ -31,14 +31,14 @@ pub enum LadderFault {
 impl LadderFault {
     /// The number that a refusal is known by. A method, since a From to u8 would not say what the number is.
     pub fn number(self) -> u8
-        ensures { result ≡ number self }
+        ensures { result ≡ ladder_number self }
     {
         13
     }
 }
 
 impl fmt::Display for LadderFault {
-    ghost output = { λ f. Some (reason f) };
+    ghost output = { λ f. Some (ladder_reason f) };
 
     fn fmt<W: fmt::Write>(&self, f: &mut fmt::Formatter<W>) -> fmt::Result {
         f.write_str(match self {

@@ -126,7 +126,7 @@ impl SteppedLadder {
 
     /// The ladder of these bands: taken exactly if they are lawful, and otherwise refused with the first fault.
     pub fn new(bands: &[Band]) -> Result<SteppedLadder, LadderFault>
-        ensures taken { Decides (is_ok result) (LawfulBands bands.now) }
+        ensures lawful { Decides (is_ok result) (LawfulBands bands.now) }
         ensures made { TakenUnless (ladder_fault bands.now) (λ l. bands_of l ≡ bands.now) result }
     {
         let [head, rest @ ..] = bands else {

@@ -92,13 +92,13 @@ impl Evidence<'_> {
         entry.series == self.series && self.record.has(self.window, entry.stamp)
     }
 
-    // What the last of those entries says that say it: that of the largest stamp, of equal stamps the later one.
-    fn last<T: Copy, F: Fn(Kind) -> Option<T>>(&self, said: F) -> Option<T>
-        requires { F.IsAlwaysCallable said }
+    // The value of the last of those entries that has one: that of the largest stamp, of equal stamps the later one.
+    fn last<T: Copy, F: Fn(Kind) -> Option<T>>(&self, value_of: F) -> Option<T>
+        requires { F.IsAlwaysCallable value_of }
     {
         let mut last = None;
         for entry in self.entries.iter().filter(|entry| self.has(entry)) {
-            if let Some(value) = said(entry.kind) {
+            if let Some(value) = value_of(entry.kind) {
                 last = match last {
                     Some((stamp, _)) if entry.stamp < stamp => last,
                     _ => Some((entry.stamp, value)),

@@ -135,14 +135,14 @@ pub(crate) fn call_of(alloc: Global, line: &[u8]) -> Result<Call, Stop> {
     if let Some(more) = fields.get(parts.len()) {
         return Err(wrong(more.start.saturating_sub(1)));
     }
-    said(command.text, values.as_slice()).ok_or(wrong(line.len()))
+    call_by(command.text, values.as_slice()).ok_or(wrong(line.len()))
 }
 
 // The call of a command with its values; none if some lack.
-fn said(command: &[u8], values: &[Value]) -> Option<Call> {
+fn call_by(command: &[u8], values: &[Value]) -> Option<Call> {
     match (command, values) {
-        (b"day", numbers) => day_said(numbers),
-        (b"list", terms) => terms_said(terms).map(Call::List),
+        (b"day", numbers) => day_by(numbers),
+        (b"list", terms) => terms_by(terms).map(Call::List),
         (b"bell", [Value::Bell(bell)]) => Some(Call::Bell(*bell)),
         (b"theory", [Value::Number(series), value]) => Some(Call::Theory {
             series: *series,
@@ -158,7 +158,7 @@ fn said(command: &[u8], values: &[Value]) -> Option<Call> {
             edition: *edition,
         }),
         (_, [Value::Number(series), Value::Number(stamp), values @ ..]) => {
-            kind_said(command, values).map(|kind| {
+            kind_by(command, values).map(|kind| {
                 Call::Entry(Entry {
                     series: *series,
                     stamp: *stamp,
@@ -177,7 +177,7 @@ fn optional(value: Value) -> Option<i64> {
     }
 }
 
-fn day_said(values: &[Value]) -> Option<Call> {
+fn day_by(values: &[Value]) -> Option<Call> {
     match values {
         [
             Value::Number(night),
@@ -203,7 +203,7 @@ fn day_said(values: &[Value]) -> Option<Call> {
     }
 }
 
-fn terms_said(values: &[Value]) -> Option<Terms> {
+fn terms_by(values: &[Value]) -> Option<Terms> {
     match values {
         [
             Value::Number(family),
@@ -226,7 +226,7 @@ fn terms_said(values: &[Value]) -> Option<Terms> {
     }
 }
 
-fn kind_said(command: &[u8], values: &[Value]) -> Option<Kind> {
+fn kind_by(command: &[u8], values: &[Value]) -> Option<Kind> {
     match (command, values) {
         (b"spread", [Value::Number(difference)]) => Some(Kind::Spread {
             difference: *difference,
@@ -240,13 +240,13 @@ fn kind_said(command: &[u8], values: &[Value]) -> Option<Kind> {
                 price: *price,
                 lots: *lots,
             };
-            deal_said(command, deal)
+            deal_by(command, deal)
         }
         _ => None,
     }
 }
 
-fn deal_said(command: &[u8], deal: Deal) -> Option<Kind> {
+fn deal_by(command: &[u8], deal: Deal) -> Option<Kind> {
     match command {
         b"trade" => Some(Kind::Trade(deal)),
         b"auction" => Some(Kind::Auction(deal)),

@@ -1,6 +1,6 @@
 use Rattle.std.proofs.Common.{rules, w64, SFits}
 use Rattle.std.proofs.lemmas.Int.{to_z-of_z}
-use Rattle.answers.proofs.Adding.{told_price}
+use Rattle.answers.proofs.Adding.{begins_price}
 use Rattle.answers.proofs.writing.put_price.Goals as goal
 
 pub returns : goal.returns
@@ -9,5 +9,5 @@ returns c =
     let fits : SFits w64 s.price = search rules in
     let series = simp (to_z-of_z w64 c.args.series c.ranges.series) at (c.put_number-at.ensures.added) in
     let price = simp (to_z-of_z w64 s.price fits) at (c.put_number-at-2.ensures.added) in
-    told_price _ _ _ _ _ _ _ _ _ _ _ _ c.args.series s c.put-at.ensures series price c.put_field-at.ensures c.letter.ensures
+    begins_price _ _ _ _ _ _ _ _ _ _ _ _ c.args.series s c.put-at.ensures series price c.put_field-at.ensures c.letter.ensures
     c.put_number.ensures.added c.ranges.series fits (search rules)

@@ -28,10 +28,10 @@ returns g c =
     let i = c.loop-i.i in
     let size = c.in_ok-count.ensures in
     let all : c.in_ok-count.count ≡ i = omega arith in
-    let told = subst (λ (xs : List g.row.D.Denot). AsDescribed D.prices H xs (take i c.loop-i.ladders)) (take_all i ds c.loop-i-test.false) c.loop-i.invariant.1 in (
+    let as_described = subst (λ (xs : List g.row.D.Denot). AsDescribed D.prices H xs (take i c.loop-i.ladders)) (take_all i ds c.loop-i-test.false) c.loop-i.invariant.1 in (
       sized D.fault D.prices H ds size.0 ∙ c.loop-i.invariant.2 ∙ at_drop_all (each_fault D.fault) ds i c.loop-i-test.false,
       (
         size.1.0,
-        λ n v. ap (λ k. lawful_at H (take k c.loop-i.ladders) n v) all ∙ described_lawful D.fault D.prices H ds (take i c.loop-i.ladders) told n v,
+        λ n v. ap (λ k. lawful_at H (take k c.loop-i.ladders) n v) all ∙ described_lawful D.fault D.prices H ds (take i c.loop-i.ladders) as_described n v,
       ),
     )
