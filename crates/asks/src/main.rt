@@ -50,7 +50,7 @@ fn entry(n: u32) -> Entry {
 }
 
 // How many of the questions settle after so many entries.
-fn settled<B: Book>(book: &mut B, entries: u32, questions: u32) -> anyhow::Result<usize> {
+fn count_settled<B: Book>(book: &mut B, entries: u32, questions: u32) -> anyhow::Result<usize> {
     let set = EvenSet::new(&[10i64]).map_err(|fault| anyhow!("{fault}"))?;
     let mut house = House::new(set);
     for _ in 0..SERIES {
@@ -83,8 +83,8 @@ fn run(rt: &HostRuntime) -> anyhow::Result<()> {
     let questions = number(words.next())?;
     let day = LawfulDay::new(DAY).map_err(|_| anyhow!("no lawful day"))?;
     let settled = match make.as_str() {
-        "board" => settled(&mut Board::new(day, MOST), entries, questions)?,
-        "tape" => settled(&mut Tape::new(day, &mut [BLANK; MOST]), entries, questions)?,
+        "board" => count_settled(&mut Board::new(day, MOST), entries, questions)?,
+        "tape" => count_settled(&mut Tape::new(day, &mut [BLANK; MOST]), entries, questions)?,
         _ => return Err(anyhow!("a book is a board or a tape")),
     };
     println!(rt; "{settled}")?;

@@ -6,7 +6,7 @@ mod reading;
 mod showing;
 
 use crate::reading::{Line, line_of};
-use crate::showing::Shown;
+use crate::showing::ShownFigures;
 use anyhow::anyhow;
 use board::boards::Board;
 use book::books::Book;
@@ -57,8 +57,8 @@ fn compare<A: Book, B: Book>(
     if a != Values::default() || !same {
         println!(rt;
             "series {series} window {window} tape {} board {} {}",
-            Shown(a),
-            Shown(b),
+            ShownFigures(a),
+            ShownFigures(b),
             verdict(same)
         )?;
     }

@@ -30,9 +30,9 @@ impl fmt::Display for LastQuote {
 
 // The last trade, auction, spread and quote, the lots and the money.
 #[derive(Clone, Copy)]
-pub(crate) struct Shown(pub(crate) Values);
+pub(crate) struct ShownFigures(pub(crate) Values);
 
-impl fmt::Display for Shown {
+impl fmt::Display for ShownFigures {
     fn fmt<W: fmt::Write>(&self, f: &mut fmt::Formatter<W>) -> fmt::Result {
         let Values {
             trade,

@@ -59,10 +59,10 @@ impl fmt::Display for Reply {
         match *self {
             Reply::Done => write!(f, "done"),
             Reply::Listed(number) => write!(f, "listed {number}"),
-            Reply::Settled(series, settled) => {
-                let price = settled.price;
-                let step = settled.step;
-                let place = settled.place;
+            Reply::Settled(series, settlement) => {
+                let price = settlement.price;
+                let step = settlement.step;
+                let place = settlement.place;
                 write!(f, "price {series} {price} {step} {place}")
             }
         }
