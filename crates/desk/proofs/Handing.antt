@@ -2,8 +2,10 @@
 use Rattle.std.proofs.Common.{◌≡◌, false, is_ok, Some, None, Option, Ok, Err, IfErr, Result, refl}
 use Rattle.std.proofs.lemmas.Bool.{cond-false}
 use Rattle.book.specs.Ledgers.{Ledger}
+use Rattle.ladders.specs.Made.{even_prices, size_of}
 use Rattle.ladders.specs.declared.sets.SetOf.{SetOf}
 use Rattle.ladders.specs.declared.ticks.Tick.{Tick}
+use Rattle.house.specs.Houses.{set_of}
 use Rattle.house.specs.declared.faults.HouseFault.{HouseFault}
 use Rattle.house.specs.declared.houses.House.{House}
 use Rattle.calls.specs.Worlds.{next, reply, world}
@@ -12,16 +14,16 @@ use Rattle.calls.specs.declared.call.Reply.{Reply}
 use Rattle.calls.proofs.Refusals.{refused_stays}
 use Rattle.lines.specs.declared.line_calls.LineCall.{LineCall}
 use Rattle.lines.specs.declared.line_calls.LineCall.TheVariants as lines
-use Rattle.desk.specs.Desks.{Begun, Standing, begun_by, by_house, call_after, call_answer, day_answer, day_begun, desk_after, desk_answer, house_after, lawful_on, waiting, world_of}
+use Rattle.desk.specs.Desks.{Begun, Standing, begun_by, by_house, call_after, call_answer, day_answer, day_begun, desk_after, desk_answer, house_after, waiting, world_of}
 
 -- a desk with this house
 abbrev with_house : {bound : _} → House (SetOf Tick) bound → Ledger → Standing
 with_house h m = record { begun = Some (begun_by h); book = m }
 
 -- what stands after the house has taken or refused a call
-pub handed : {bound : _} (h k : House (SetOf Tick) bound) (m n : Ledger) (c : Call) → world k n ≡ next (begun_by h).ladders (begun_by h).lawful c (world h m) → k.set ≡ h.set → with_house k n ≡ house_after (begun_by h) m c
+pub handed : {bound : _} (h k : House (SetOf Tick) bound) (m n : Ledger) (c : Call) → world k n ≡ next (begun_by h).ladders (begun_by h).lawful c (world h m) → set_of k ≡ set_of h → with_house k n ≡ house_after (begun_by h) m c
 handed h k m n c after set = λ i. record {
-  begun = Some (record { ladders = (set i).count; lawful = lawful_on (set i); state = (after i).state });
+  begun = Some (record { ladders = size_of (set i); lawful = even_prices (set i); state = (after i).state });
   book = (after i).book;
 }
 

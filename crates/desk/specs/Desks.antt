@@ -1,18 +1,19 @@
 -- What a desk answers to a line's call, and what the desk and its book hold afterwards.
-use Rattle.std.specs.Prelude.{ℕ, Bool, cond, List, length, take, ℤ, is_ok, Some, None, Ok, Err, Option, Result, unsigned_abs}
+use Rattle.std.specs.Prelude.{ℕ, Bool, cond, List, length, ℤ, is_ok, Some, None, Ok, Err, Option, Result, unsigned_abs}
 use Rattle.std.specs.Option.{option_map}
 use Rattle.book.specs.Days.{is_lawful}
 use Rattle.book.specs.Ledgers.{Ledger, fresh}
 use Rattle.book.specs.declared.days.Day.{Day}
 use Rattle.book.specs.declared.faults.DayFault.TheVariants.{NotLawful}
 use Rattle.ladders.specs.Faults.{tick_fault}
+use Rattle.ladders.specs.Made.{even_prices, size_of}
 use Rattle.ladders.specs.Multiples.{multiple}
 use Rattle.ladders.specs.Sets.{lawful_at, set_fault}
 use Rattle.ladders.specs.declared.faults.LadderFault.{LadderFault}
 use Rattle.ladders.specs.declared.sets.SetOf.{SetOf}
 use Rattle.ladders.specs.declared.ticks.Tick.{Tick}
 use Rattle.house.specs.Calls.{State, new_state}
-use Rattle.house.specs.Houses.{state}
+use Rattle.house.specs.Houses.{set_of, state}
 use Rattle.house.specs.declared.faults.HouseFault.{HouseFault}
 use Rattle.house.specs.declared.houses.House.{House}
 use Rattle.calls.specs.Worlds.{World, next, reply}
@@ -39,12 +40,8 @@ pub record Standing : Type 0 where
   pub begun : Option Begun
   pub book : Ledger
 
--- even ladders: the lawful prices of each are the multiples of its tick
-abbrev pub lawful_on : SetOf Tick → ℕ → ℤ → Bool
-lawful_on set = lawful_at (λ t. multiple t.points) (take set.count set.ladders)
-
 abbrev pub begun_by : {bound : _} → House (SetOf Tick) bound → Begun
-begun_by h = record { ladders = h.set.count; lawful = lawful_on h.set; state = state h }
+begun_by h = record { ladders = size_of (set_of h); lawful = even_prices (set_of h); state = state h }
 
 abbrev pub standing : Desk → Ledger → Standing
 standing d m = record { begun = option_map begun_by d.house; book = m }
