@@ -30,7 +30,8 @@ pub enum LineFault {
 }
 
 impl LineFault {
-    /// The number that the refusal is known by, 1 to 13. A method, since a From to u8 would not say what the number is.
+    /// The number that the refusal is known by, 1 to 13.
+    // A method, since a From to u8 would not say what the number is.
     pub fn number(self) -> u8
         ensures { result ≡ line_number self }
     {

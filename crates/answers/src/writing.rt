@@ -92,7 +92,8 @@ fn put_refused(out: &mut [u8], fault: LineFault) -> usize
     }
 }
 
-/// Writes the answer to a line at the front of the buffer, and tells how many bytes it has.
+/// Writes the answer to a line at the front of the buffer, and tells how many bytes it has. A buffer under 96 bytes is refused with
+/// `ShortBuffer`, and stays as it was.
 pub fn write_answer(answer: &Result<Reply, LineFault>, out: &mut [u8]) -> Result<usize, LineFault>
     ensures replied { Replied (answer_text answer.now) out.old result out.new }
     ensures short { IfOk result (λ n. n ≤ 96) }

@@ -19,7 +19,8 @@ use lines::parsing::parse;
 use calls::call::{Call, Reply};
 use calls::performing::perform;
 
-/// No house stands before a day line. The desk has no book: one is lent with each line, and the day line begins it anew.
+/// What answers the lines of one day. No house stands before a day line. The desk has no book: one is lent with each line, and the
+/// day line begins it anew.
 #[derive(Drop)]
 pub struct Desk {
     house: Option<House<EvenSet>>,
@@ -64,7 +65,8 @@ impl Desk {
         Ok(perform(house, book, call)?)
     }
 
-    /// Makes a call, or refuses it and changes nothing.
+    /// Makes a call, or refuses it and changes nothing. The fault tells why: no day line yet, a further one, or what the day record,
+    /// the ladders or the house refuse.
     pub fn call<B: Reusable>(&mut self, book: &mut B, call: LineCall) -> Result<Reply, LineFault>
         ensures answer { result ≡ call_answer (standing self.old (B.Book.meaning book.old)) call }
         ensures after { standing self.new (B.Book.meaning book.new) ≡ call_after (standing self.old (B.Book.meaning book.old)) call }
@@ -85,8 +87,8 @@ impl Desk {
         self.call(book, call)
     }
 
-    /// Answers a line: writes the answer at the front of the buffer, and tells how many bytes it has. A short buffer is refused
-    /// before the line is looked at.
+    /// Answers a line: writes the answer, a refusal too, at the front of the buffer, and tells how many bytes it has. The one error is
+    /// `ShortBuffer`, of a buffer under 96 bytes; it is told before the line is looked at, and nothing changes.
     pub fn respond<B: Reusable>(
         &mut self,
         book: &mut B,

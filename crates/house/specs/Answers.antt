@@ -20,7 +20,7 @@ Answer = Result Settlement ℕ
 
 -- ---- one series, with the answer for its reference
 
--- the row by which a series is path_answer in an edition
+-- the row by which a series is settled in an edition
 abbrev pub row_of : Series → Edition → List Place
 row_of s ed = row s.terms.family (chosen s.terms.family s.terms.marks ed)
 

@@ -80,7 +80,8 @@ impl<L: LadderSet> House<L> {
         listing.checked(number, self.set.count())
     }
 
-    /// Lists a series, and tells its number.
+    /// Lists a series, and tells its number. Refused after the open bell with `WrongPhase`, with 32 series listed with
+    /// `SeriesFull`, and for unlawful terms with `TermsNotLawful`, in this order.
     pub fn list(&mut self, listing: Listing) -> Result<u8, HouseFault>
         ensures answer { result ≡ list_answer (L.size (set_of self.old)) listing (state self.old) }
         ensures after { state self.new ≡ list_after (L.size (set_of self.old)) listing (state self.old) }
@@ -93,7 +94,7 @@ impl<L: LadderSet> House<L> {
         Ok(number)
     }
 
-    /// Rings a bell.
+    /// Rings a bell. Any bell but the one that ends the phase is refused with `WrongPhase`.
     pub fn ring(&mut self, bell: Bell) -> Result<(), HouseFault>
         ensures answer { result ≡ bell_answer bell (state self.old) }
         ensures after { state self.new ≡ bell_after bell (state self.old) }
@@ -159,7 +160,9 @@ impl<L: LadderSet> House<L> {
         self.check_entry(day, entry, &series.terms)
     }
 
-    /// Enters an entry into the book.
+    /// Enters an entry into the book. Refused while not trading with `WrongPhase`, for a series that is not listed with
+    /// `NoSuchSeries`, beyond the limits with the book's `BeyondLimits`, as a spread outside family 2 with `SpreadNotFollowing`, with
+    /// a price off its ladder with `OffLadder`, and by a full book with its `Full`, in this order.
     pub fn enter<B: Book>(&self, book: &mut B, entry: Entry) -> Result<(), HouseFault>
         ensures answer { result ≡ entry_answer (L.LadderSet.lawful (set_of self.now)) (B.Book.meaning book.old) entry (state self.now) }
         ensures after { B.Book.meaning book.new ≡ entry_after (L.LadderSet.lawful (set_of self.now)) entry (state self.now) (B.Book.meaning book.old) }
@@ -170,7 +173,8 @@ impl<L: LadderSet> House<L> {
         Ok(())
     }
 
-    /// Sets the theory value of a series, or clears it.
+    /// Sets the theory value of a series, in points, or clears it. Refused for a series that is not listed with `NoSuchSeries`, and
+    /// beyond the price limit with `SuppliedBeyondLimits`.
     pub fn set_theory(&mut self, series: i64, value: Option<i64>) -> Result<(), HouseFault>
         ensures answer { result ≡ theory_answer series value (state self.old) }
         ensures after { state self.new ≡ theory_after series value (state self.old) }
@@ -187,7 +191,8 @@ impl<L: LadderSet> House<L> {
         Ok(())
     }
 
-    /// Sets the ruling of a series, with or without the first mark, or clears it.
+    /// Sets the ruling of a series, in points, with or without the first mark, or clears it. Refused for a series that is not
+    /// listed with `NoSuchSeries`; beyond the price limit, or cleared with the first mark, with `SuppliedBeyondLimits`.
     pub fn set_ruling(
         &mut self,
         series: i64,

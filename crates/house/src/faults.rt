@@ -32,7 +32,8 @@ pub enum HouseFault {
 }
 
 impl HouseFault {
-    /// The number that the refusal is known by, 2 to 10. A method, since a From to u8 would not say what the number is.
+    /// The number that the refusal is known by, 2 to 10.
+    // A method, since a From to u8 would not say what the number is.
     pub fn number(self) -> u8
         ensures { result ≡ house_number self }
     {

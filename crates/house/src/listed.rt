@@ -30,9 +30,10 @@ fn blank() -> Series
     Series::new(terms)
 }
 
-/// Every series has lawful terms, with a reference to an earlier one if any, and supplied values within the price limit. What
-/// is lawful goes by the series' number, which it does not know, so that functions say it. The slots are an array with a count,
-/// since nothing here allocates; the kit's vector within an array would be a new dependency.
+/// The series that are listed. Every one has lawful terms, with a reference to an earlier series if any, and supplied values within
+/// the price limit.
+// The slots are an array with a count, since nothing here allocates; the kit's vector within an array would be a new dependency.
+// Contracts see a roll (`roll_of`) and not a model: the kit finds no code for a model's value that has a function in it.
 #[derive(Drop)]
 pub struct Listed {
     slots: [Series; 32],

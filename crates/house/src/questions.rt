@@ -68,7 +68,8 @@ impl<L: LadderSet> House<L> {
             .map_err(HouseFault::NoPrice)
     }
 
-    /// The settlement price of a series in an edition, or the origin of its refusal. House and book are only read.
+    /// The settlement price of a series in an edition. Refused while the edition is not open with `WrongPhase`, for a series that is
+    /// not listed with `NoSuchSeries`, and with `NoPrice` and the origin where no step finds a price. House and book are only read.
     pub fn settle<B: Book>(
         &self,
         book: &B,

@@ -11,7 +11,8 @@ use crate::rungs::Ladder;
 use crate::stepping::SteppedLadder;
 use crate::ticks::Tick;
 
-/// No TryFrom, whose impls have no place for what a description means.
+/// What describes a ladder: a tick, or bands.
+// No TryFrom, whose impls have no place for what a description means.
 pub trait Describes<L: Ladder> {
     // What is wrong with the description, if anything.
     ghost fault: { Self → Option Fault };
@@ -19,7 +20,7 @@ pub trait Describes<L: Ladder> {
     // The lawful prices that are described.
     ghost prices: { Self → ℤ → Bool };
 
-    /// The ladder with these lawful prices.
+    /// The ladder with these lawful prices; the error is the first fault of the description.
     fn checked(&self) -> Result<L, LadderFault>
         ensures { TakenUnless (fault self.now) (λ l. (v : ℤ) → L.Ladder.holds l v ≡ prices self.now v) result };
 }

@@ -29,7 +29,8 @@ pub enum LadderFault {
 }
 
 impl LadderFault {
-    /// The number that a refusal is known by. A method, since a From to u8 would not say what the number is.
+    /// The number that a refusal is known by: 13.
+    // A method, since a From to u8 would not say what the number is.
     pub fn number(self) -> u8
         ensures { result ≡ ladder_number self }
     {

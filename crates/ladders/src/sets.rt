@@ -41,8 +41,9 @@ pub trait LadderSet {
     ghost dense: { (s : Self) (n : ℕ) (z : ℤ) → Near (lawful s n) z };
 }
 
-/// A set of ladders of one make. The places from `count` on are not used: an array, since nothing here allocates, and no
-/// ArrayVec of the kit, which would be a new dependency, and whose `new` asks that L has a default.
+/// A set of ladders of one make.
+// The places from `count` on are not used: an array, since nothing here allocates, and no ArrayVec of the kit, which would be a new
+// dependency, and whose `new` asks that L has a default.
 #[derive(Drop)]
 pub struct SetOf<L> {
     ladders: [L; 16],
@@ -75,7 +76,8 @@ fn whole(v: i64) -> Option<i64>
 }
 
 impl<L: Ladder> SetOf<L> {
-    /// The set of the ladders that are described, numbered in their order.
+    /// The set of the ladders that are described, numbered in their order. The error is the first fault: of their number, or of the
+    /// first ladder that is not lawful.
     pub fn new<D: Describes<L>>(described: &[D]) -> Result<SetOf<L>, LadderFault>
         ensures { TakenUnless (set_fault D.Describes.fault described.now)
             (λ s.

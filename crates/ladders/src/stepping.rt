@@ -11,8 +11,8 @@ use crate::limits::is_within;
 use crate::rungs::Ladder;
 use crate::ticks::Tick;
 
-/// An array with a count, since nothing here allocates, and no ArrayVec of the kit, which would be a new dependency and is
-/// not Copy.
+/// A ladder of 1 to 4 bands: a price is lawful if it is a multiple of the tick of the band that it lies in.
+// An array with a count, since nothing here allocates, and no ArrayVec of the kit, which would be a new dependency and is not Copy.
 #[derive(Clone, Copy)]
 pub struct SteppedLadder {
     first: Tick,

@@ -23,7 +23,7 @@ pub struct Tick {
 impl Tick {
     ghost use Rattle.ladders.specs.Made.{points_of};
 
-    /// A tick of 1 to 1,000,000 points.
+    /// A tick of 1 to 1,000,000 points; of any other number the error is `TickOutOfRange`.
     pub fn new(points: i64) -> Result<Tick, LadderFault>
         ensures { TakenUnless (tick_fault points) (λ t. pos (points_of t) ≡ points) result }
     {

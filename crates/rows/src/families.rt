@@ -42,7 +42,8 @@ pub enum Family {
 pub struct NoSuchFamily(pub i64);
 
 impl Family {
-    /// The family's number, 1 to 15. A method, since a From to u8 would not say what the number is.
+    /// The family's number, 1 to 15.
+    // A method, since a From to u8 would not say what the number is.
     pub fn number(self) -> u8
         ensures value { result ≡ number self }
         ensures range { (1 ≤ result) × (result ≤ 15) }

@@ -176,7 +176,8 @@ fn decode(code: u8) -> Option<Place>
     })
 }
 
-/// The places of a row, with nothing past its end. An array, since nothing here allocates.
+/// The places of a row, with nothing past its end.
+// An array, since nothing here allocates.
 pub fn places(family: Family, choice: Choice) -> [Option<Place>; PLACES]
     ensures value { (k : ℕ) → slice_index_or result k None ≡ at (row family choice) k }
     ensures gapless { (j k : ℕ) → j ≤ k → slice_index_or result j None ≡ None → slice_index_or result k None ≡ None }

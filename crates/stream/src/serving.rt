@@ -36,8 +36,8 @@ fn next_piece<R: Read>(input: &mut R, piece: &mut [u8; PIECE]) -> io::Result<usi
     Err(ErrorKind::Other.into())
 }
 
-/// Answers the lines of an input until it ends. Answers go out before the next piece is read, so that whoever waits for one has it;
-/// a write that fails ends it. The laws beside it are of the words that it is written_length in: no lines have two transcripts, and every
+/// Answers the lines of an input until it ends. Answers go out before the next piece is read, so that whoever waits for one has it.
+/// An error is the reader's or the writer's, and ends it; an interrupted read is tried again. The laws beside it are of the words that it is told in: no lines have two transcripts, and every
 /// input falls into lines in one way.
 pub fn serve<B: Reusable, R: Read, W: Write>(
     book: &mut B,
@@ -61,8 +61,8 @@ pub fn serve<B: Reusable, R: Read, W: Write>(
     Err(ErrorKind::Other.into())
 }
 
-/// How many bytes `serve` holds beside the book: 11,320 for a session, which is the house, the line that has not ended and the
-/// answers not written yet; 8,192 for a piece of the input; and 97 for an answer with its newline.
+//// How many bytes `serve` holds beside the book: 11,320 for a session, which is the house, the line that has not ended and the
+//// answers not written yet; 8,192 for a piece of the input; and 97 for an answer with its newline.
 pub fn bytes_held() -> usize
     ensures { result ≡ 11320 + 8192 + 97 }
 {

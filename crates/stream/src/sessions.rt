@@ -100,7 +100,7 @@ impl Session {
         self.end_line(book, writer, &[])
     }
 
-    /// Hands to the writer all that was printed, and asks it to take_piece it on.
+    /// Hands to the writer all that was printed, and asks it to pass it on. An error is the writer's.
     pub fn flush<W: Write>(&mut self, writer: &mut W) -> io::Result<()>
         ensures { OnOk result ((m : Ledger) → Flushed (view_of self.old (W.contents writer.old) m) (W.contents writer.new) (view_of self.new (W.contents writer.new) m)) }
     {
@@ -108,7 +108,8 @@ impl Session {
         writer.flush()
     }
 
-    /// Takes a piece of the input and lets no answer wait: whoever gave the piece has the answers before the next one is asked for.
+    /// Takes a piece of the input and lets no answer wait: whoever gave the piece has the answers before the next one is asked for. An
+    /// error is the writer's.
     pub fn take_piece<B: Reusable, W: Write>(
         &mut self,
         book: &mut B,
@@ -121,7 +122,7 @@ impl Session {
         self.flush(writer)
     }
 
-    /// The input has ended.
+    /// Answers what follows the last newline, if anything does: the input has ended. An error is the writer's.
     pub fn finish<B: Reusable, W: Write>(&mut self, book: &mut B, writer: &mut W) -> io::Result<()>
         ensures { OnOk result (Finished (view_of self.old (W.contents writer.old) (B.Book.meaning book.old)) (W.contents writer.new) (view_of self.new (W.contents writer.new) (B.Book.meaning book.new))) }
     {
