@@ -1,3 +1,3 @@
 mod Places
-mod Sweeps
+mod WindowByWindow
 mod Takes

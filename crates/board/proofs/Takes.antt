@@ -4,7 +4,7 @@ use Rattle.std.proofs.lemmas.Bool.{and_from, cond_both}
 use Rattle.book.specs.Bounds.{bounded}
 use Rattle.book.specs.Entries.{kind_lawful}
 use Rattle.book.specs.Figures.{entered_if, stamp_small, values}
-use Rattle.book.specs.Ledgers.{Lawful, after, entered, grown, in_range, reply}
+use Rattle.book.specs.Ledgers.{Lawful, after, entered, with_taken, in_range, reply}
 use Rattle.book.specs.Windows.{edges}
 use Rattle.book.specs.declared.days.Day.{Day}
 use Rattle.book.specs.declared.entries.Entry.{Entry}
@@ -20,9 +20,9 @@ pub record Takes (d : Day) (k n : ℕ) (old new : List Figures) (e : Entry) : Ty
 
 -- the day, count and capacity may have been come by in any way
 pub takes : (d d' : Day) (k n k' n' : ℕ) (old new : List Figures) (e : Entry) → Lawful (tabled d k n old) → d' ≡ d → n' ≡ n → k' ≡ k → Ok tt ≡ reply d' n' k' e → ((s w : ℕ) → cell new s w ≡ cond (in_range s w) (entered_if s (edges d' w) (cell old s w) e) (cell old s w)) → Takes d k n old new e
-takes d d' k n k' n' old new e lawful day count capacity ok swept = record {
+takes d d' k n k' n' old new e lawful day count capacity ok entered_everywhere = record {
   bounds = λ s w. ap (λ f. bounded (n + 1) (values f)) (all s w) ∙ bounded_entered n s (edges d w) (cell old s w) e (allowed_kind d e a.lawful) (lawful.bounds s w);
-  after = grows ∙ sym a.grows;
+  after = taken ∙ sym a.taken;
 }
   where
     a : Admitted (tabled d k n old) e
@@ -32,11 +32,11 @@ takes d d' k n k' n' old new e lawful day count capacity ok swept = record {
     all s w =
         let sound = and_from (stamp_small e.stamp) (kind_lawful e.kind) (allowed_stamp d e lawful.lawful_day a.lawful) (allowed_kind d e a.lawful) in
         let few : n ≤ 30000 = let room = lawful.room in let most = lawful.most in omega arith in
-        swept s w
+        entered_everywhere s w
         ∙ ap (λ x. cond (in_range s w) (entered_if s (edges x w) (cell old s w) e) (cell old s w)) day
         ∙ cond_both (in_range s w) _ (cell old s w) (λ f. f ≡ entered d s w (cell old s w) e)
         (λ r. enters s (edges d w) (cell old s w) e sound (roomy_from n (cell old s w) (lawful.bounds s w) few))
         (λ r. sym (outside_stays d s w (cell old s w) e a.lawful r))
 
-    grows : tabled d k (n + 1) new ≡ grown (tabled d k n old) e
-    grows = λ i. record { day = d; capacity = k; count = n + 1; figures = λ s w. all s w i }
+    taken : tabled d k (n + 1) new ≡ with_taken (tabled d k n old) e
+    taken = λ i. record { day = d; capacity = k; count = n + 1; figures = λ s w. all s w i }

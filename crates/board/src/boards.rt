@@ -13,6 +13,7 @@ use book::faults::BookFault;
 use book::figures::Values;
 use book::lawful::LawfulDay;
 
+/// A book that keeps running figures of every series and window, and takes the same memory whatever comes.
 #[derive(Drop)]
 pub struct Board {
     table: Table,
@@ -25,7 +26,7 @@ pub struct Board {
 }
 
 impl Board {
-    // An empty board for the day, of the capacity stated, cut to 30,000.
+    /// An empty board for the day, of the capacity stated, cut to 30,000.
     pub fn new(day: LawfulDay, capacity: usize) -> Board
         ensures { ⟦<Board as Book>⟧.meaning result ≡ fresh day (min capacity 30000) }
     {
@@ -37,7 +38,7 @@ impl Board {
         }
     }
 
-    // How many bytes a board takes: at most 40 KiB.
+    /// How many bytes a board takes: at most 40 KiB.
     pub fn size() -> usize
         ensures value { result ≡ 33328 }
         ensures most { result ≤ 40960 }

@@ -10,8 +10,10 @@ use book::entries::{Entry, SERIES};
 use book::figures::{Figures, SoundEntry};
 use book::windows::windows;
 
+// Windows are numbered from 1.
 const WINDOWS: u8 = 13;
 
+// A record for each series and window.
 const CELLS: usize = SERIES as usize * WINDOWS as usize;
 
 // Flat and of a fixed size, with one record changed in place: nothing here allocates.
@@ -29,6 +31,7 @@ fn place(series: u8, window: u8) -> Option<usize>
 }
 
 impl Table {
+    // Empty figures everywhere.
     pub(crate) fn empty() -> Table
         ensures { (s w : ℕ) → cell result.cells s w ≡ empty }
     {

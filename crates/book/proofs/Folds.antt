@@ -7,7 +7,7 @@ use Rattle.book.specs.Bounds.{bounded}
 use Rattle.book.specs.Days.{is_lawful}
 use Rattle.book.specs.Entries.{allowed, kind_lawful}
 use Rattle.book.specs.Figures.{empty, entered_if, entered_in, sound, stamp_small, values}
-use Rattle.book.specs.Ledgers.{Lawful, entered, grown, in_range}
+use Rattle.book.specs.Ledgers.{Lawful, entered, with_taken, in_range}
 use Rattle.book.specs.Records.{every, figures_of, recorded}
 use Rattle.book.specs.Windows.{edges}
 use Rattle.book.specs.declared.days.Day.{Day}
@@ -80,7 +80,7 @@ lawful_record d k es l most room h = record {
 }
 
 -- one entry more
-pub recorded_push : (d : Day) (k : ℕ) (es : List Entry) (e : Entry) → recorded d k (es ++ (e ∷ [])) ≡ grown (recorded d k es) e
+pub recorded_push : (d : Day) (k : ℕ) (es : List Entry) (e : Entry) → recorded d k (es ++ (e ∷ [])) ≡ with_taken (recorded d k es) e
 recorded_push d k es e =
     let count = length_push es e in
     let more : (s w : ℕ) → figures_of d (es ++ (e ∷ [])) s w ≡ entered d s w (figures_of d es s w) e = λ s w. fold_push (entered d s w) empty es e in

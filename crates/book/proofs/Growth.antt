@@ -24,9 +24,9 @@ later_of_both P (Some o) t v h k =
 
 -- the parts of the bounds
 pub record Parts (n : ℕ) (v : Values) : Type 0 where
-  pub some : pos 0 ≤ℤ v.lots
-  pub few : v.lots ≤ℤ pos (n * 100000)
-  pub dear : nat_abs v.money ≤ nat_abs v.lots * 1000000000
+  pub lots_from : pos 0 ≤ℤ v.lots
+  pub lots_to : v.lots ≤ℤ pos (n * 100000)
+  pub money_bound : nat_abs v.money ≤ nat_abs v.lots * 1000000000
   pub trade : side_lawful v.trade ≡ true
   pub auction : side_lawful v.auction ≡ true
   pub spread : spread_if v.spread ≡ true
@@ -42,26 +42,26 @@ parts n v h =
     let prices = and_parts (side_lawful v.trade) (side_lawful v.auction) each.0 in
     let others = and_parts (spread_if v.spread) (sides_if v.quote) each.1 in
     record {
-      some = le_from (pos 0) v.lots lots.0;
-      few = le_from v.lots (pos (n * 100000)) lots.1;
-      dear = leb-true (nat_abs v.money) (nat_abs v.lots * 1000000000) sums.1;
+      lots_from = le_from (pos 0) v.lots lots.0;
+      lots_to = le_from v.lots (pos (n * 100000)) lots.1;
+      money_bound = leb-true (nat_abs v.money) (nat_abs v.lots * 1000000000) sums.1;
       trade = prices.0;
       auction = prices.1;
       spread = others.0;
       quote = others.1;
     }
 
-whole : (n : ℕ) (v : Values) → Parts n v → bounded n v ≡ true
-whole n v p =
+bounded_of_parts : (n : ℕ) (v : Values) → Parts n v → bounded n v ≡ true
+bounded_of_parts n v p =
     and_from _ _
-    (and_from _ _ (and_from _ _ (le_test (pos 0) v.lots p.some) (le_test v.lots (pos (n * 100000)) p.few)) (le-leb (nat_abs v.money) (nat_abs v.lots * 1000000000) p.dear))
+    (and_from _ _ (and_from _ _ (le_test (pos 0) v.lots p.lots_from) (le_test v.lots (pos (n * 100000)) p.lots_to)) (le-leb (nat_abs v.money) (nat_abs v.lots * 1000000000) p.money_bound))
     (and_from _ _ (and_from _ _ p.trade p.auction) (and_from _ _ p.spread p.quote))
 
 -- the same figures, of more entries
 of_more : (n k : ℕ) (v : Values) → n ≤ k → Parts n v → Parts k v
 of_more n k v h p =
-    let few = p.few in
-    record { some = p.some; few = omega (arith, ints); dear = p.dear; trade = p.trade; auction = p.auction; spread = p.spread; quote = p.quote }
+    let lots_to = p.lots_to in
+    record { lots_from = p.lots_from; lots_to = omega (arith, ints); money_bound = p.money_bound; trade = p.trade; auction = p.auction; spread = p.spread; quote = p.quote }
 
 later : (n : ℕ) (v : Values) → Parts n v → Parts (n + 1) v
 later n v p = of_more n (n + 1) v (omega arith) p
@@ -75,64 +75,64 @@ abs_sum_up a b h k = omega (arith, ints)
 lots_range : (n : ℤ) → lots_lawful n ≡ true → (pos 0 ≤ℤ n) × (n ≤ℤ pos 100000)
 lots_range n h = (grind (arith, ints), grind (arith, ints))
 
-grown_trade : (n : ℕ) (f : Figures) (t p l : ℤ) → price_lawful p ≡ true → lots_lawful l ≡ true → Parts n (values f) → Parts (n + 1) (values (traded t p l f))
-grown_trade n f t p l h k v =
+parts_of_traded : (n : ℕ) (f : Figures) (t p l : ℤ) → price_lawful p ≡ true → lots_lawful l ≡ true → Parts n (values f) → Parts (n + 1) (values (traded t p l f))
+parts_of_traded n f t p l h k v =
     let range = lots_range l k in
     let low = range.0 in
     let high = range.1 in
-    let some = v.some in
-    let few = v.few in
-    let dear = v.dear in
+    let lots_from = v.lots_from in
+    let lots_to = v.lots_to in
+    let money_bound = v.money_bound in
     let worth = worth_by_lots p l h k in
     let money = abs_sum f.money (p *ℤ l) in
-    let lots = abs_sum_up f.lots l some low in
+    let lots = abs_sum_up f.lots l lots_from low in
     record {
-      some = omega (arith, ints);
-      few = omega (arith, ints);
-      dear = rw lots (omega arith);
+      lots_from = omega (arith, ints);
+      lots_to = omega (arith, ints);
+      money_bound = rw lots (omega arith);
       trade = later_of_both side_lawful f.trade t p v.trade h;
       auction = v.auction;
       spread = v.spread;
       quote = v.quote;
     }
 
-grown_auction : (n : ℕ) (f : Figures) (t p : ℤ) → price_lawful p ≡ true → Parts n (values f) → Parts n (values (with_auction t p f))
-grown_auction n f t p h v = record {
-  some = v.some;
-  few = v.few;
-  dear = v.dear;
+parts_of_auction : (n : ℕ) (f : Figures) (t p : ℤ) → price_lawful p ≡ true → Parts n (values f) → Parts n (values (with_auction t p f))
+parts_of_auction n f t p h v = record {
+  lots_from = v.lots_from;
+  lots_to = v.lots_to;
+  money_bound = v.money_bound;
   trade = v.trade;
   auction = later_of_both side_lawful f.auction t p v.auction h;
   spread = v.spread;
   quote = v.quote;
 }
 
-grown_with_entry : (n : ℕ) (f : Figures) (k : Kind) (t : ℤ) → kind_lawful k ≡ true → Parts n (values f) → Parts (n + 1) (values (with_entry k t f))
-grown_with_entry n f (Trade p l) t h v =
+parts_of_entry : (n : ℕ) (f : Figures) (k : Kind) (t : ℤ) → kind_lawful k ≡ true → Parts n (values f) → Parts (n + 1) (values (with_entry k t f))
+parts_of_entry n f (Trade p l) t h v =
     let both = and_parts (price_lawful p) (lots_lawful l) h in
-    grown_trade n f t p l both.0 both.1 v
-grown_with_entry n f (Auction p l) t h v =
+    parts_of_traded n f t p l both.0 both.1 v
+parts_of_entry n f (Auction p l) t h v =
     let both = and_parts (price_lawful p) (lots_lawful l) h in
-    grown_trade n (with_auction t p f) t p l both.0 both.1 (grown_auction n f t p both.0 v)
-grown_with_entry n f (Leg p l) t h v = later n (values f) v
-grown_with_entry n f (Spread d) t h v =
+    parts_of_traded n (with_auction t p f) t p l both.0 both.1 (parts_of_auction n f t p both.0 v)
+parts_of_entry n f (Leg p l) t h v = later n (values f) v
+parts_of_entry n f (Spread d) t h v =
     let w = later n (values f) v in
     record {
-      some = w.some;
-      few = w.few;
-      dear = w.dear;
+      lots_from = w.lots_from;
+      lots_to = w.lots_to;
+      money_bound = w.money_bound;
       trade = w.trade;
       auction = w.auction;
       spread = later_of_both spread_if f.spread t d w.spread h;
       quote = w.quote;
     }
-grown_with_entry n f (Quote b a) t h v =
+parts_of_entry n f (Quote b a) t h v =
     let w = later n (values f) v in
     let sides = (and_parts (side_lawful b && side_lawful a) (uncrossed b a) h).0 in
     record {
-      some = w.some;
-      few = w.few;
-      dear = w.dear;
+      lots_from = w.lots_from;
+      lots_to = w.lots_to;
+      money_bound = w.money_bound;
       trade = w.trade;
       auction = w.auction;
       spread = w.spread;
@@ -143,19 +143,19 @@ pub bounded_entered : (n s : ℕ) (x : ℤ × ℤ) (f : Figures) (e : Entry) →
 bounded_entered n s x f e h b =
     let p = parts n (values f) b in
     cond_both (concerns s x e) (with_entry e.kind e.stamp f) f (λ g. bounded (n + 1) (values g) ≡ true)
-    (λ yes. whole (n + 1) _ (grown_with_entry n f e.kind e.stamp h p))
-    (λ no. whole (n + 1) (values f) (later n (values f) p))
+    (λ yes. bounded_of_parts (n + 1) _ (parts_of_entry n f e.kind e.stamp h p))
+    (λ no. bounded_of_parts (n + 1) (values f) (later n (values f) p))
 
 pub bounded_empty : (n : ℕ) → bounded n (values empty) ≡ true
-bounded_empty n = whole n (values empty) (record { some = omega (arith, ints); few = omega (arith, ints); dear = omega arith; trade = refl; auction = refl; spread = refl; quote = refl })
+bounded_empty n = bounded_of_parts n (values empty) (record { lots_from = omega (arith, ints); lots_to = omega (arith, ints); money_bound = omega arith; trade = refl; auction = refl; spread = refl; quote = refl })
 
 -- a book has room for the sums of all its entries
 pub roomy_from : (n : ℕ) (f : Figures) → bounded n (values f) ≡ true → n ≤ 30000 → roomy f ≡ true
 roomy_from n f b h =
     let p = parts n (values f) b in
-    let some = p.some in
-    let few = p.few in
-    let dear = p.dear in
+    let lots_from = p.lots_from in
+    let lots_to = p.lots_to in
+    let money_bound = p.money_bound in
     let lots : nat_abs f.lots ≤ 3000000000 = omega (arith, ints) in
     and_from _ _ (le-leb (nat_abs f.lots) 3000000000 lots) (le-leb (nat_abs f.money) 3000000000000000000 (omega arith))
 

@@ -4,5 +4,5 @@ pub mod Growth
 pub mod Ranges
 pub mod Folds
 pub mod Taking
-pub mod Told
-mod Handed
+pub mod RecordedEvidence
+mod TakenEvidence

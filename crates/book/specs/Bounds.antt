@@ -1,4 +1,4 @@
--- How large figures can grow.
+-- The bounds that figures keep.
 use Rattle.std.specs.Prelude.{ℕ, ◌*◌, Bool, true, ◌&&◌, ℤ, pos, Some, None, Option, int_le, nat_le, unsigned_abs}
 use Rattle.book.specs.Entries.{side_lawful, spread_lawful}
 use Rattle.book.specs.declared.figures.Sides.{Sides}

@@ -47,7 +47,7 @@ quote_sides (Quote b a) = Some (record { bid = b; ask = a })
 abbrev pub pick : {V : Type 0} → (Kind → Option V) → ℕ → ℤ × ℤ → Entry → Option V
 pick has s x e = cond (concerns s x e) (has e.kind) None
 
--- an entry entries_taken for the figure, with its stamp and value: none for it that came before has a later stamp, and none that
+-- an entry taken for the figure, with its stamp and value: none for it that came before has a later stamp, and none that
 -- came after has as late a one
 pub record StandsLast {V : Type 0} (picked : Entry → Option V) (es : List Entry) (o : Last V) : Type 0 where
   pub front : List Entry
@@ -59,7 +59,7 @@ pub record StandsLast {V : Type 0} (picked : Entry → Option V) (es : List Entr
   pub before : AllByRecursion (λ e. is_some (picked e) ≡ true → e.stamp ≤ℤ o.stamp) front
   pub since : AllByRecursion (λ e. is_some (picked e) ≡ true → e.stamp <ℤ o.stamp) rest
 
--- nothing is last where no entry was entries_taken for the figure
+-- nothing is last where no entry was taken for the figure
 abbrev pub LastOf : {V : Type 0} → (Entry → Option V) → List Entry → Option (Last V) → Type 0
 LastOf picked es None = AllByRecursion (λ e. picked e ≡ None) es
 LastOf picked es (Some o) = StandsLast picked es o

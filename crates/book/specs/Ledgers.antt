@@ -34,8 +34,8 @@ answer m e = reply m.day m.count m.capacity e
 abbrev pub entered : Day → ℕ → ℕ → Figures → Entry → Figures
 entered d s w f e = entered_in s (edges d w) f e
 
-abbrev pub grown : Ledger → Entry → Ledger
-grown m e = record {
+abbrev pub with_taken : Ledger → Entry → Ledger
+with_taken m e = record {
   day = m.day;
   capacity = m.capacity;
   count = m.count + 1;
@@ -44,7 +44,7 @@ grown m e = record {
 
 -- a refused entry changes nothing
 abbrev pub after : Ledger → Entry → Ledger
-after m e = cond (allowed m.day e) (cond (m.count == m.capacity) m (grown m e)) m
+after m e = cond (allowed m.day e) (cond (m.count == m.capacity) m (with_taken m e)) m
 
 -- series 0 to 31 and windows 1 to 13
 abbrev pub in_range : ℕ → ℕ → Bool

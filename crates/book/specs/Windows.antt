@@ -10,7 +10,7 @@ before t = cond (int_lt (pos 0) t) (t -ℤ pos 1) t
 abbrev pub nothing : ℤ × ℤ
 nothing = (pos 1, pos 0)
 
--- from number 0 on, which no window has
+-- from number 0 on, which no window has; the numbers are clock times of the date after the evening session's, as 139800 is 14:50
 abbrev pub windows : Day → List (ℤ × ℤ)
 windows d =
     nothing

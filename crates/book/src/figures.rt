@@ -7,46 +7,63 @@ use crate::entries::{Entry, Kind, is_kind_lawful};
 use crate::lawful::DAY_END;
 use std::marker::Model;
 
-// What the sums of 30,000 entries keep within.
+// What the sums of 30,000 entries keep within: lots, and points times lots.
 const MOST_LOTS: u64 = 3_000_000_000;
 
 const MOST_MONEY: u64 = 3_000_000_000_000_000_000;
 
-// A last figure with its stamp.
+/// A last figure with its stamp.
 #[derive(Clone, Copy, PartialEq, Eq, Debug)]
 pub struct Last<V> {
+    /// Seconds from the midnight that begins the evening session's date.
     pub stamp: i32,
+    /// A price or a spread in points, or the sides of a quote.
     pub value: V,
 }
 
-// The best bid and ask, either of which may be missing.
+/// The best bid and ask, either of which may be missing.
 #[derive(Clone, Copy, PartialEq, Eq, Debug)]
 pub struct Sides {
+    /// In points.
     pub bid: Option<i32>,
+    /// In points.
     pub ask: Option<i32>,
 }
 
-// Stamps and prices are kept in 32 bits, so that a table of all series and windows stays small.
+/// The figures of one series and window, as they are kept. Stamps and prices are in 32 bits, so that a table of all series and
+/// windows stays small.
 #[derive(Clone, Copy, Default, PartialEq, Eq, Debug)]
 pub struct Figures {
+    /// The last trade's price; an auction is a trade too.
     pub trade: Option<Last<i32>>,
+    /// The last auction's price.
     pub auction: Option<Last<i32>>,
+    /// The last spread.
     pub spread: Option<Last<i32>>,
+    /// The last quote.
     pub quote: Option<Last<Sides>>,
-    // All lots of the trades and auctions, and the sum of price times lots.
+    /// All lots of the trades and auctions.
     pub lots: i64,
+    /// The sum of price times lots over the trades and auctions, in points.
     pub money: i64,
 }
 
-// The figures as they are read: without the stamps. One struct over the type of a last figure would be no plainer: the
-// quote would need a parameter of its own, and specs and other crates name both.
+/// The figures as they are read: without the stamps.
+// One struct over the type of a last figure would be no plainer: the quote would need a parameter of its own, and specs and
+// other crates name both.
 #[derive(Clone, Copy, Default, PartialEq, Eq, Debug)]
 pub struct Values {
+    /// The last trade's price in points; an auction is a trade too.
     pub trade: Option<i32>,
+    /// The last auction's price in points.
     pub auction: Option<i32>,
+    /// The last spread in points.
     pub spread: Option<i32>,
+    /// The sides of the last quote.
     pub quote: Option<Sides>,
+    /// All lots of the trades and auctions.
     pub lots: i64,
+    /// The sum of price times lots over the trades and auctions, in points.
     pub money: i64,
 }
 
@@ -101,7 +118,7 @@ impl Deal {
     }
 }
 
-// An entry whose stamp and numbers are within the limits of any day.
+/// An entry whose stamp and numbers are within the limits of any day. Contracts see it as the entry.
 #[derive(Clone, Copy)]
 pub struct SoundEntry {
     entry: Entry,
@@ -122,7 +139,7 @@ impl Model for SoundEntry {
 }
 
 impl SoundEntry {
-    // The entry, if it is within the limits.
+    /// The entry, if it is within the limits of any day.
     pub fn new(entry: &Entry) -> Option<SoundEntry>
         ensures { MatchOption result (sound entry.now ≡ false) (λ s. (sound entry.now ≡ true) × (s ≡ entry.now)) }
     {
@@ -135,14 +152,14 @@ impl SoundEntry {
 }
 
 impl Figures {
-    // Nothing is last, and the sums are 0.
+    /// Nothing is last, and the sums are 0.
     pub fn empty() -> Figures
         ensures { result ≡ empty }
     {
         Figures::default()
     }
 
-    // The figures without the stamps.
+    /// The figures without the stamps.
     pub fn values(&self) -> Values
         ensures { result ≡ values self.now }
     {
@@ -201,8 +218,8 @@ impl Figures {
         self.lots.unsigned_abs() <= MOST_LOTS && self.money.unsigned_abs() <= MOST_MONEY
     }
 
-    // A sound entry of the series enters the figures of a window with these edges, if the window holds its stamp. An entry for
-    // which the sums have no room changes nothing.
+    /// A sound entry of the series enters the figures of a window with these edges, a first and a last second, if the window
+    /// holds its stamp. An entry for which the sums have no room changes nothing.
     pub fn enter_sound(&mut self, e: &SoundEntry, edges: (i64, i64))
         ensures { self.new ≡ entered_sound edges self.old e.now }
     {
@@ -212,8 +229,8 @@ impl Figures {
         }
     }
 
-    // An entry enters the figures of a series and of a window with these edges, if it is for them. An entry beyond the
-    // limits of any day, or one for which the sums have no room, changes nothing.
+    /// An entry enters the figures of a series and of a window with these edges, a first and a last second, if it is for them.
+    /// An entry beyond the limits of any day, or one for which the sums have no room, changes nothing.
     pub fn enter_in(&mut self, e: &Entry, series: u8, edges: (i64, i64))
         ensures { self.new ≡ entered_if series edges self.old e.now }
     {

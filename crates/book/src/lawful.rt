@@ -7,13 +7,16 @@ use crate::days::Day;
 use crate::faults::DayFault;
 use std::marker::Model;
 
-// The last second of the evening session's date, the first of the next date, and its last.
+// The last second of the evening session's date.
 const EVENING_END: i64 = 86_399;
 
+// The first second of the next date.
 const MIDNIGHT: i64 = 86_400;
 
+// The last second of the next date.
 pub(crate) const DAY_END: i64 = 172_799;
 
+/// A day record that is lawful. Contracts see it as the day record.
 #[derive(Clone, Copy)]
 pub struct LawfulDay {
     day: Day,
@@ -33,6 +36,8 @@ impl Model for LawfulDay {
     ghost inverse = { λ d. record { day = d } };
 }
 
+// Night opening on the first date; day opening, afternoon opening and close on the next, in this order, the afternoon before
+// the close; the cut between day opening and close.
 fn is_lawful(day: &Day) -> bool
     ensures { result ≡ is_lawful day.now }
 {
@@ -45,7 +50,8 @@ fn is_lawful(day: &Day) -> bool
 }
 
 impl LawfulDay {
-    // The day record, if it is lawful. `TryFrom` would read no plainer: `LawfulDay::new` says what is made.
+    /// The day record, if it is lawful; `NotLawful` if it is not.
+    // `TryFrom` would read no plainer: `LawfulDay::new` says what is made.
     pub fn new(day: Day) -> Result<LawfulDay, DayFault>
         ensures { MatchResult result (λ l. (is_lawful day ≡ true) × (l ≡ day)) (λ f. (is_lawful day ≡ false) × (f ≡ NotLawful)) }
     {
@@ -55,7 +61,7 @@ impl LawfulDay {
         Ok(LawfulDay { day })
     }
 
-    // The least lawful day, for a book that waits for a day to begin.
+    /// The lawful day with the least stamps, for a book that waits for a day to begin.
     pub fn least() -> LawfulDay
         ensures { result ≡ least_day }
     {
@@ -70,7 +76,7 @@ impl LawfulDay {
         }
     }
 
-    // The five numbers.
+    /// The day record.
     pub fn day(&self) -> Day
         ensures value { result ≡ self.now }
         ensures lawful { is_lawful result ≡ true }

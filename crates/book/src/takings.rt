@@ -1,4 +1,4 @@
-// Entries entries_taken into a book, one after the other.
+// Entries handed to a book, one after the other.
 ghost use Rattle.std.specs.Prelude.{◌≡◌, ℕ, length};
 ghost use Rattle.book.specs.Evidence.{Evidence};
 ghost use Rattle.book.specs.Ledgers.{fresh};
@@ -8,8 +8,8 @@ ghost use Rattle.book.specs.declared.days.Day.{Day};
 use crate::books::Book;
 use crate::entries::Entry;
 
-// Hands the entries to the book in their order, and tells how many it took. What a new book then answers is evidence_of_taken by the
-// entries entries_taken.
+/// Hands the entries to the book in their order, and tells how many it took. The figures of a book that was new are then
+/// evidence of the entries taken.
 pub fn take_all<B: Book>(book: &mut B, entries: &[Entry]) -> usize
     ensures count { result ≡ length (entries_taken (B.meaning book.old) entries.now) }
     ensures after { B.meaning book.new ≡ after_all (B.meaning book.old) entries.now }
@@ -25,7 +25,8 @@ pub fn take_all<B: Book>(book: &mut B, entries: &[Entry]) -> usize
     count
 }
 
-// Hands the same entries to two books of any make. Where they meant the same before, they mean the same afterwards.
+/// Hands the same entries to two books of any make, and tells how many each took. Where they meant the same before, they mean the
+/// same afterwards.
 pub fn take_both<A: Book, B: Book>(one: &mut A, other: &mut B, entries: &[Entry]) -> (usize, usize)
     ensures counts { (result.0 ≡ length (entries_taken (A.Book.meaning one.old) entries.now)) × (result.1 ≡ length (entries_taken (B.Book.meaning other.old) entries.now)) }
     ensures first { A.Book.meaning one.new ≡ after_all (A.Book.meaning one.old) entries.now }

@@ -4,22 +4,33 @@ ghost use Rattle.book.specs.Windows.{before, edges, windows};
 
 use crate::days::Day;
 
-const LAST_CALL: i64 = 139_800;
+// Clock times of the rules, on the date after the evening session's: 86,400 seconds and the time of day.
 
-const LAST_MINUTES: i64 = 142_200;
+// Window 7 begins.
+const AT_08_45: i64 = 117_900;
 
-const AFTERNOON: i64 = 135_900;
+// Windows 10 and 13 begin.
+const AT_10_45: i64 = 125_100;
 
-const AFTERNOON_END: i64 = 143_100;
+// Window 10 ends.
+const AT_11_00: i64 = 126_000;
 
-const MORNING: i64 = 117_900;
+// Windows 8 and 9 end.
+const AT_11_02: i64 = 126_120;
 
-const MORNING_END: i64 = 126_120;
+// Window 6 begins.
+const AT_13_45: i64 = 135_900;
 
-const QUARTER: i64 = 125_100;
+// Window 3 begins.
+const AT_14_50: i64 = 139_800;
 
-const QUARTER_END: i64 = 126_000;
+// Window 5 begins.
+const AT_15_30: i64 = 142_200;
 
+// Windows 6 and 7 end.
+const AT_15_45: i64 = 143_100;
+
+// An empty window.
 const NOTHING: (i64, i64) = (1, 0);
 
 // The second before a stamp. None lies before second 0, so that from there down a stamp stays as it is.
@@ -29,8 +40,8 @@ fn before(stamp: i64) -> i64
     if 0 < stamp { stamp - 1 } else { stamp }
 }
 
-// The windows of the day by their numbers, each a first and a last second, both included: the rules have them as pairs. Number 0
-// is no window, and empty.
+/// The windows of the day by their numbers, each a first and a last second, both included: the rules have them as pairs. Number 0
+/// is no window, and empty.
 pub fn windows(day: &Day) -> [(i64, i64); 14]
     ensures { result ≡ windows day.now }
 {
@@ -38,22 +49,22 @@ pub fn windows(day: &Day) -> [(i64, i64); 14]
         NOTHING,
         (day.night, day.close),
         (day.opening, day.close),
-        (LAST_CALL, day.close),
+        (AT_14_50, day.close),
         (day.afternoon, day.close),
-        (LAST_MINUTES, day.close),
-        (AFTERNOON, AFTERNOON_END),
-        (MORNING, AFTERNOON_END),
-        (day.opening, MORNING_END),
-        (day.night, MORNING_END),
-        (QUARTER, QUARTER_END),
+        (AT_15_30, day.close),
+        (AT_13_45, AT_15_45),
+        (AT_08_45, AT_15_45),
+        (day.opening, AT_11_02),
+        (day.night, AT_11_02),
+        (AT_10_45, AT_11_00),
         (day.opening, before(day.cut)),
         (day.night, before(day.cut)),
-        (QUARTER, before(day.cut)),
+        (AT_10_45, before(day.cut)),
     ]
 }
 
-// The first and the last second of a window of the day; of a number that no window has, an empty one. The window is a raw
-// number, since a narrower type would ask more of callers.
+/// The first and the last second of a window of the day; of a number that no window has, an empty one. The window is a raw
+/// number, since a narrower type would ask more of callers.
 pub fn edges(day: &Day, window: u8) -> (i64, i64)
     ensures { result ≡ edges day.now window }
 {

@@ -1,7 +1,7 @@
 -- Calls that were taken, and calls that were refused.
 use Rattle.std.proofs.Common.{◌≡◌, ℕ, Bool, true, false, ℤ, is_ok, Ok, Err, Result, sym, refl, ap, ◌∙◌}
 use Rattle.std.proofs.lemmas.Bool.{true≢false}
-use Rattle.book.specs.Ledgers.{Ledger, grown}
+use Rattle.book.specs.Ledgers.{Ledger, with_taken}
 use Rattle.house.specs.Calls.{State, entry_answer, listed_terms, moved, ruling_answer, rung, theory_answer, ok_with}
 use Rattle.house.specs.declared.faults.HouseFault.{HouseFault}
 use Rattle.calls.specs.Worlds.{World, as_listed, is_taken, next}
@@ -38,7 +38,7 @@ refused_stays ladders lawful (Ring b) w h =
     ap (λ (s : State). record { state = s; book = w.book }) (stays r _ w.state (sym (ok_with_ok tt r) ∙ sym (ok_with_ok _ (ok_with tt r)) ∙ h))
 refused_stays ladders lawful (Enter e) w h =
     let r = entry_answer lawful w.book e w.state in
-    ap (λ (m : Ledger). record { state = w.state; book = m }) (stays r (λ _. grown w.book e) w.book (sym (ok_with_ok _ r) ∙ h))
+    ap (λ (m : Ledger). record { state = w.state; book = m }) (stays r (λ _. with_taken w.book e) w.book (sym (ok_with_ok _ r) ∙ h))
 refused_stays ladders lawful (SetTheory n value) w h =
     let r = theory_answer n value w.state in
     ap (λ (s : State). record { state = s; book = w.book }) (stays r _ w.state (sym (ok_with_ok _ r) ∙ h))

@@ -31,4 +31,4 @@ within_lots m d h =
 
 -- there is an average wherever there are lots
 pub average_inside : (k : ℕ) (v : Values) → bounded k v ≡ true → inside v.money (nat_abs v.lots) ≡ ltb 0 (nat_abs v.lots)
-average_inside k v h = within_lots v.money (nat_abs v.lots) (parts k v h).dear
+average_inside k v h = within_lots v.money (nat_abs v.lots) (parts k v h).money_bound

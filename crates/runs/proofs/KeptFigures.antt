@@ -7,7 +7,7 @@ use Rattle.book.specs.Records.{every, figures_of}
 use Rattle.book.specs.declared.days.Day.{Day}
 use Rattle.book.specs.declared.entries.Entry.{Entry}
 use Rattle.book.specs.declared.figures.Figures.{Figures}
-use Rattle.book.proofs.Told.{evidence}
+use Rattle.book.proofs.RecordedEvidence.{evidence}
 use Rattle.runs.specs.Kept.{kept, on_path}
 
 -- a filter after a wider one keeps what it keeps alone

@@ -44,7 +44,7 @@ some_nearest P n d = by (inside n d)
 average_more : (P : ℤ → Bool) (k l : ℕ) (v w : Values) → bounded k v ≡ true → bounded l w ≡ true → v.lots ≤ℤ w.lots → StillThere (average P v.money v.lots) (average P w.money w.lots)
 average_more P k l v w h m more there =
     let some = ltb-true 0 (nat_abs v.lots) (sym (average_inside k v h) ∙ (sym (some_nearest P v.money (nat_abs v.lots)) ∙ there)) in
-    let none_negative = (parts k v h).some in
+    let none_negative = (parts k v h).lots_from in
     some_nearest P w.money (nat_abs w.lots) ∙ (average_inside l w m ∙ lt-ltb 0 (nat_abs w.lots) (omega (arith, ints)))
 
 less_more : (r q s t : Option ℤ) → StillThere r q → StillThere s t → StillThere (less r s) (less q t)

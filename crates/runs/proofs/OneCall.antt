@@ -7,7 +7,7 @@ use Rattle.std.proofs.lemmas.List.Sums.{fold_push}
 use Rattle.std.proofs.lemmas.Bool.{and_parts, cases_eq, cases_lt, cond-false, cond-true, eq-eqb, ltb-true, ne_eqb, true≢false}
 use Rattle.book.specs.Entries.{allowed, side_lawful}
 use Rattle.book.specs.Figures.{is_series}
-use Rattle.book.specs.Ledgers.{Ledger, answer, grown}
+use Rattle.book.specs.Ledgers.{Ledger, answer, with_taken}
 use Rattle.book.specs.Records.{every, recorded}
 use Rattle.book.specs.declared.days.Day.{Day}
 use Rattle.book.specs.declared.entries.Entry.{Entry}
@@ -274,8 +274,8 @@ told_entry d k lawful xs e s m ok t =
     let long = length_push (entries xs) e in
     let few : length (entries xs ++ (e ∷ [])) ≤ k = omega arith in
     record {
-      records = ap (λ a. moved a (λ _. grown m e) m) (found (entry_answer lawful m e s) ok).1
-          ∙ ap (λ l. grown l e) t.records
+      records = ap (λ a. moved a (λ _. with_taken m e) m) (found (entry_answer lawful m e s) ok).1
+          ∙ ap (λ l. with_taken l e) t.records
           ∙ sym (recorded_push d k (entries xs) e)
           ∙ ap (recorded d k) (sym more);
       lawful = ap (every (allowed d)) more ∙ every_push (allowed d) (entries xs) e t.lawful (ap (λ y. allowed y e) (sym day) ∙ taken.lawful);

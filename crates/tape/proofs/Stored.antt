@@ -3,7 +3,7 @@ use Rattle.std.proofs.Common.{◌≡◌, ℕ, ◌+◌, ◌<◌, ◌≤◌, min, 
 use Rattle.std.proofs.lemmas.List.{length-take-le, take_more_set, length-set}
 use Rattle.book.specs.Days.{is_lawful}
 use Rattle.book.specs.Entries.{allowed}
-use Rattle.book.specs.Ledgers.{Lawful, after, grown, reply}
+use Rattle.book.specs.Ledgers.{Lawful, after, with_taken, reply}
 use Rattle.book.specs.Records.{every, recorded}
 use Rattle.book.specs.declared.days.Day.{Day}
 use Rattle.book.specs.declared.entries.Entry.{Entry}
@@ -18,7 +18,7 @@ tape_is_lawful d slots n l held few h =
     let count = length-take-le n slots held in
     lawful_record d (min (length slots) 30000) (take n slots) l (omega arith) (omega arith) h
 
-stored_more : (d : Day) (slots : List Entry) (n : ℕ) (e : Entry) → n < length slots → recorded d (min (length (set slots n e)) 30000) (take (n + 1) (set slots n e)) ≡ grown (recorded d (min (length slots) 30000) (take n slots)) e
+stored_more : (d : Day) (slots : List Entry) (n : ℕ) (e : Entry) → n < length slots → recorded d (min (length (set slots n e)) 30000) (take (n + 1) (set slots n e)) ≡ with_taken (recorded d (min (length slots) 30000) (take n slots)) e
 stored_more d slots n e h =
     ap (λ k. recorded d (min k 30000) (take (n + 1) (set slots n e))) (length-set slots n e)
     ∙ ap (recorded d (min (length slots) 30000)) (take_more_set slots n e h)
@@ -41,5 +41,5 @@ stores d slots n k e held few all fit ok =
     record {
       held = omega arith;
       allowed = ap (every (allowed d)) (take_more_set slots n e place) ∙ every_push (allowed d) (take n slots) e all a.lawful;
-      after = stored_more d slots n e place ∙ sym a.grows;
+      after = stored_more d slots n e place ∙ sym a.taken;
     }

@@ -14,15 +14,15 @@ use book::figures::Values;
 use book::lawful::LawfulDay;
 use book::windows::edges;
 
-// What may fill the places that a tape is lent: it reads none of them before it has stored an entry there.
+/// What may fill the places that a tape is lent: it reads none of them before it has stored an entry there.
 pub const BLANK: Entry = Entry {
     series: 0,
     stamp: 0,
     kind: Kind::Leg { price: 0, lots: 0 },
 };
 
-// The entries taken stand in the first `count` places, in the order taken. The caller lends the places: nothing here
-// allocates.
+/// A book that keeps its entries, in the order taken, in places that the caller lends, and goes through them to answer.
+// The entries taken stand in the first `count` places.
 #[derive(Drop)]
 pub struct Tape<'a> {
     slots: &'a mut [Entry],
@@ -37,7 +37,7 @@ pub struct Tape<'a> {
 }
 
 impl<'a> Tape<'a> {
-    // An empty tape for the day: it has as many places as it is lent, and at most 30,000.
+    /// An empty tape for the day: it has as many places as it is lent, and at most 30,000.
     pub fn new(day: LawfulDay, slots: &'a mut [Entry]) -> Tape<'a>
         ensures { ⟦<Tape<'a> as Book>⟧.meaning result ≡ fresh day (min (length slots.old) 30000) }
     {

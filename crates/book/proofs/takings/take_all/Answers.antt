@@ -1,7 +1,7 @@
 use Rattle.std.proofs.Common.{sym, ◌∙◌}
 use Rattle.std.proofs.lemmas.List.{at_drop_all}
 use Rattle.book.specs.Takings.{after_all}
-use Rattle.book.proofs.Handed.{evidence_of_taken}
+use Rattle.book.proofs.TakenEvidence.{evidence_of_taken}
 use Rattle.book.proofs.takings.take_all.Goals as goal
 
 pub returns-clause-evidence : goal.returns-clause-evidence

@@ -3,7 +3,7 @@ use Rattle.std.proofs.lemmas.Int.{to_z-of_z}
 use Rattle.std.specs.Int.{FitsUnsignedBits}
 use Rattle.book.specs.Windows.{edges}
 use Rattle.board.specs.Cells.{cell}
-use Rattle.board.proofs.Sweeps.{all_series, no_series}
+use Rattle.board.proofs.WindowByWindow.{all_series, no_series}
 use Rattle.board.proofs.tables.Table.enter_all.Goals as goal
 
 pub returns-in-Ok : goal.returns-in-Ok

@@ -3,7 +3,7 @@ use Rattle.book.specs.Figures.{entered_sound}
 use Rattle.book.specs.Ledgers.{in_range}
 use Rattle.book.specs.Windows.{edges}
 use Rattle.board.specs.Cells.{cell}
-use Rattle.board.proofs.Sweeps.{listed_edges, sweep_more}
+use Rattle.board.proofs.WindowByWindow.{listed_edges, one_window_more}
 use Rattle.board.proofs.tables.Table.enter_windows.Goals as goal
 
 pub loop-window-preserved : goal.loop-window-preserved
@@ -14,7 +14,7 @@ loop-window-preserved c s w =
     let i = c.from.result in
     let m = c.loop-window.window in
     let few : m ≤ 13 = omega arith in
-    sweep_more (λ k. entered_sound (edges c.args.day.now w) k e) (λ k. entered_sound (get_or xs i (pos 0, pos 0)) k e) (in_range s w) (eqb s c.args.series) w m
+    one_window_more (λ k. entered_sound (edges c.args.day.now w) k e) (λ k. entered_sound (get_or xs i (pos 0, pos 0)) k e) (in_range s w) (eqb s c.args.series) w m
     (cell c.args.self.now.cells s w) f (cell c.enter_at.new.self.cells s w)
     (λ is. ap (λ x. entered_sound x f e) (listed_edges c.args.day.now xs i w m (pos 0, pos 0) c.windows-windows.ensures c.from.ensures is few))
     (c.loop-window.invariant s w) (c.enter_at.ensures s w)

@@ -1,23 +1,23 @@
--- What a new book means after entries were handed to it one after the other.
+-- The figures of a new book, after entries were handed to it, are evidence of those that it took.
 use Rattle.std.proofs.Common.{◌≡◌, ℕ, true, false, List, [], ◌∷◌, ◌++◌, is_ok, sym, ap, ◌∙◌, subst, ⊎_elim}
 use Rattle.std.proofs.lemmas.List.{append_assoc, append-nil}
 use Rattle.std.proofs.lemmas.Bool.{cond-false, cond-true}
 use Rattle.book.specs.Evidence.{Evidence}
-use Rattle.book.specs.Ledgers.{Ledger, after, answer, fresh, grown}
+use Rattle.book.specs.Ledgers.{Ledger, after, answer, fresh, with_taken}
 use Rattle.book.specs.Records.{recorded}
 use Rattle.book.specs.Takings.{after_all, entries_taken}
 use Rattle.book.specs.declared.days.Day.{Day}
 use Rattle.book.specs.declared.entries.Entry.{Entry}
 use Rattle.book.proofs.Folds.{recorded_push}
 use Rattle.book.proofs.Taking.{taken_or_refused}
-use Rattle.book.proofs.Told.{evidence}
+use Rattle.book.proofs.RecordedEvidence.{evidence}
 
--- a book of the entries xs, handed the entries es, means what xs and those entries_taken of es tell
+-- a book of the entries xs, handed the entries es, means what xs and those taken of es do
 abbrev Recorded : Day → ℕ → List Entry → List Entry → Type 0
 Recorded d k xs es = after_all (recorded d k xs) es ≡ recorded d k (xs ++ entries_taken (recorded d k xs) es)
 
-grows : (d : Day) (k : ℕ) (xs es : List Entry) (e : Entry) → is_ok (answer (recorded d k xs) e) ≡ true → after (recorded d k xs) e ≡ grown (recorded d k xs) e → Recorded d k (xs ++ (e ∷ [])) es → Recorded d k xs (e ∷ es)
-grows d k xs es e ok is whole =
+one_taken : (d : Day) (k : ℕ) (xs es : List Entry) (e : Entry) → is_ok (answer (recorded d k xs) e) ≡ true → after (recorded d k xs) e ≡ with_taken (recorded d k xs) e → Recorded d k (xs ++ (e ∷ [])) es → Recorded d k xs (e ∷ es)
+one_taken d k xs es e ok is whole =
     let m = recorded d k xs in
     let more : after m e ≡ recorded d k (xs ++ (e ∷ [])) = is ∙ sym (recorded_push d k xs e) in
     ap (λ n. after_all n es) more
@@ -26,8 +26,8 @@ grows d k xs es e ok is whole =
     ∙ ap (λ n. recorded d k (xs ++ (e ∷ entries_taken n es))) (sym more)
     ∙ ap (λ ys. recorded d k (xs ++ ys)) (sym (cond-true (is_ok (answer m e)) (e ∷ entries_taken (after m e) es) (entries_taken (after m e) es) ok))
 
-stays : (d : Day) (k : ℕ) (xs es : List Entry) (e : Entry) → is_ok (answer (recorded d k xs) e) ≡ false → after (recorded d k xs) e ≡ recorded d k xs → Recorded d k xs es → Recorded d k xs (e ∷ es)
-stays d k xs es e ok is whole =
+one_refused : (d : Day) (k : ℕ) (xs es : List Entry) (e : Entry) → is_ok (answer (recorded d k xs) e) ≡ false → after (recorded d k xs) e ≡ recorded d k xs → Recorded d k xs es → Recorded d k xs (e ∷ es)
+one_refused d k xs es e ok is whole =
     let m = recorded d k xs in
     ap (λ n. after_all n es) is
     ∙ whole
@@ -38,8 +38,8 @@ recorded_all : (d : Day) (k : ℕ) (xs es : List Entry) → Recorded d k xs es
 recorded_all d k xs [] = ap (recorded d k) (sym (append-nil xs))
 recorded_all d k xs (e ∷ es) =
     ⊎_elim
-    (λ p. grows d k xs es e p.0 p.1 (recorded_all d k (xs ++ (e ∷ [])) es))
-    (λ p. stays d k xs es e p.0 p.1 (recorded_all d k xs es))
+    (λ p. one_taken d k xs es e p.0 p.1 (recorded_all d k (xs ++ (e ∷ [])) es))
+    (λ p. one_refused d k xs es e p.0 p.1 (recorded_all d k xs es))
     (taken_or_refused (recorded d k xs) e)
 
 pub evidence_of_taken : (m then : Ledger) (es : List Entry) → then ≡ after_all m es → (d : Day) (k : ℕ) → m ≡ fresh d k → Evidence then (entries_taken (fresh d k) es)

@@ -1,4 +1,4 @@
--- The figures of a book, told by the entries that it took.
+-- The figures that entries make are evidence of these entries.
 use Rattle.std.proofs.Common.{◌≡◌, ℕ, Bool, true, false, cond, ◌&&◌, List, [], ◌∷◌, ◌++◌, ℤ, pos, ◌+ℤ◌, ◌≤ℤ◌, ◌<ℤ◌, is_some, Some, None, fold, filter, Option, sym, refl, ap, ◌∙◌, subst, ⊎_elim, arith}
 use lib.Signed.{le_z}
 use Rattle.std.specs.List.{AllByRecursion}
@@ -21,11 +21,11 @@ use Rattle.book.specs.declared.figures.Last.{Last}
 use Rattle.book.proofs.Orders.{le_from, over_from}
 
 -- what holds of no entries and stays as one more is entered holds of all
-told_from : (Rel : List Entry → Figures → Type 0) (step : Figures → Entry → Figures) → ((xs : List Entry) (f : Figures) (e : Entry) → Rel xs f → Rel (xs ++ (e ∷ [])) (step f e)) → (xs es : List Entry) (f : Figures) → Rel xs f → Rel (xs ++ es) (fold step f es)
-told_from Rel step push xs [] f r = subst (λ (ys : List Entry). Rel ys f) (sym (append-nil xs)) r
-told_from Rel step push xs (e ∷ es) f r =
+holds_of_fold : (Rel : List Entry → Figures → Type 0) (step : Figures → Entry → Figures) → ((xs : List Entry) (f : Figures) (e : Entry) → Rel xs f → Rel (xs ++ (e ∷ [])) (step f e)) → (xs es : List Entry) (f : Figures) → Rel xs f → Rel (xs ++ es) (fold step f es)
+holds_of_fold Rel step push xs [] f r = subst (λ (ys : List Entry). Rel ys f) (sym (append-nil xs)) r
+holds_of_fold Rel step push xs (e ∷ es) f r =
     subst (λ (ys : List Entry). Rel ys (fold step (step f e) es)) (append_assoc xs (e ∷ []) es)
-    (told_from Rel step push (xs ++ (e ∷ [])) es (step f e) (push xs f e r))
+    (holds_of_fold Rel step push (xs ++ (e ∷ [])) es (step f e) (push xs f e r))
 
 -- ---- last figures
 
@@ -162,12 +162,12 @@ evidence d k es = record {
   where
     last : {V : Type 0} (has : Kind → Option V) (s w : ℕ) (figure : Figures → Option (Last V)) → ((f : Figures) (e : Entry) → figure (entered d s w f e) ≡ next (pick has s (edges d w) e) e.stamp (figure f)) → LastOf (pick has s (edges d w)) [] (figure empty) → LastOf (pick has s (edges d w)) es (figure (figures_of d es s w))
     last {V} has s w figure moves none =
-        told_from (λ xs f. LastOf (pick has s (edges d w)) xs (figure f)) (entered d s w)
+        holds_of_fold (λ xs f. LastOf (pick has s (edges d w)) xs (figure f)) (entered d s w)
         (λ xs f e r. subst (λ (o : Option (Last V)). LastOf (pick has s (edges d w)) (xs ++ (e ∷ [])) o) (sym (moves f e)) (last_push (pick has s (edges d w)) xs e (pick has s (edges d w) e) (figure f) refl r))
         [] es empty none
 
     sum : (amount : Kind → ℤ) (s w : ℕ) (figure : Figures → ℤ) → ((f : Figures) (e : Entry) → figure (entered d s w f e) ≡ cond (is_some (pick trade_price s (edges d w) e)) (figure f +ℤ amount e.kind) (figure f)) → figure empty ≡ pos 0 → figure (figures_of d es s w) ≡ total (λ e. amount e.kind) (trades s (edges d w) es)
     sum amount s w figure moves none =
-        told_from (λ xs f. figure f ≡ total (λ e. amount e.kind) (trades s (edges d w) xs)) (entered d s w)
+        holds_of_fold (λ xs f. figure f ≡ total (λ e. amount e.kind) (trades s (edges d w) xs)) (entered d s w)
         (λ xs f e r. moves f e ∙ sum_push (λ x. amount x.kind) (λ x. is_some (pick trade_price s (edges d w) x)) xs e (figure f) r)
         [] es empty none

@@ -13,10 +13,10 @@ use Rattle.book.specs.declared.figures.Figures.{Figures}
 use Rattle.board.proofs.Places.{range_bounds}
 
 -- figures f, which are g after the windows before m and h after window m, where they enter as every window has them enter
-pub sweep_more : (enter at : Figures → Figures) (r a : Bool) (w m : ℕ) (f g h : Figures) → (w ≡ m → at g ≡ enter g) → g ≡ cond (r && (a && ltb w m)) (enter f) f → h ≡ cond (r && (a && eqb w m)) (at g) g → h ≡ cond (r && (a && ltb w (m + 1))) (enter f) f
-sweep_more enter at false a w m f g h same so_far step = step ∙ so_far
-sweep_more enter at true false w m f g h same so_far step = step ∙ so_far
-sweep_more enter at true true w m f g h same so_far step = grind (arith, nat_tests)
+pub one_window_more : (enter at : Figures → Figures) (r a : Bool) (w m : ℕ) (f g h : Figures) → (w ≡ m → at g ≡ enter g) → g ≡ cond (r && (a && ltb w m)) (enter f) f → h ≡ cond (r && (a && eqb w m)) (at g) g → h ≡ cond (r && (a && ltb w (m + 1))) (enter f) f
+one_window_more enter at false a w m f g h same so_far step = step ∙ so_far
+one_window_more enter at true false w m f g h same so_far step = step ∙ so_far
+one_window_more enter at true true w m f g h same so_far step = grind (arith, nat_tests)
 
 -- an entry for another series leaves figures as they are
 another_series : (s n : ℕ) (x : ℤ × ℤ) (f : Figures) (e : Entry) → e.series ≡ pos n → s ≢ n → entered_if s x f e ≡ f
