@@ -4,3 +4,4 @@ pub mod Reading
 pub mod Values
 pub mod Names
 pub mod Spelled
+pub mod Faults
