@@ -1,12 +1,8 @@
--- What stands after a run, told by the calls calls_taken.
-use Rattle.std.proofs.Common.{◌≡◌, ℕ, Bool, true, List, [], ◌∷◌, ◌++◌, ℤ, sym, ap, ◌∙◌, subst, ⊎_elim}
+-- What stands after a run, told by the calls taken.
+use Rattle.std.proofs.Common.{◌≡◌, ℕ, Bool, List, [], ◌∷◌, ◌++◌, ℤ, sym, ap, ◌∙◌, subst, ⊎_elim}
 use Rattle.std.proofs.lemmas.List.{append_assoc, append-nil}
 use Rattle.std.proofs.lemmas.Bool.{cases_Bool, cond-false, cond-true}
-use Rattle.book.specs.Entries.{allowed}
-use Rattle.book.specs.Records.{every, recorded}
 use Rattle.book.specs.declared.days.Day.{Day}
-use Rattle.house.specs.Series.{lawful_series}
-use Rattle.runs.specs.Readings.{entries, stands}
 use Rattle.calls.specs.Worlds.{World, is_taken, new_world, next}
 use Rattle.runs.specs.Runs.{after_run, calls_taken}
 use Rattle.calls.specs.declared.call.Call.{Call}
@@ -32,23 +28,11 @@ told_more d k ladders lawful xs (c ∷ calls) w t =
     goal : List Call → Type 0
     goal ys = Told d k ys (after_run ladders lawful calls then)
 
--- all that the calls calls_taken tell of a run from a new house and a new book
-pub told_run : (d : Day) (k ladders : ℕ) (lawful : ℕ → ℤ → Bool) (calls : List Call) → Told d k (calls_taken ladders lawful calls (new_world d k)) (after_run ladders lawful calls (new_world d k))
+-- a run from a new house and a new book
+told_run : (d : Day) (k ladders : ℕ) (lawful : ℕ → ℤ → Bool) (calls : List Call) → Told d k (calls_taken ladders lawful calls (new_world d k)) (after_run ladders lawful calls (new_world d k))
 told_run d k ladders lawful calls = told_more d k ladders lawful [] calls (new_world d k) (told_new d k)
 
-pub told_series : (d : Day) (k ladders : ℕ) (lawful : ℕ → ℤ → Bool) (calls : List Call) (n : ℕ) → (after_run ladders lawful calls (new_world d k)).state.roll.series n ≡ stands (calls_taken ladders lawful calls (new_world d k)) n
-told_series d k ladders lawful calls = (told_run d k ladders lawful calls).roll.series
-
-pub told_lawful : (d : Day) (k ladders : ℕ) (lawful : ℕ → ℤ → Bool) (calls : List Call) (n : ℕ) → lawful_series n ((after_run ladders lawful calls (new_world d k)).state.roll.series n) ≡ true
-told_lawful d k ladders lawful calls = (told_run d k ladders lawful calls).roll.lawful
-
-pub told_book : (d : Day) (k ladders : ℕ) (lawful : ℕ → ℤ → Bool) (calls : List Call) → (after_run ladders lawful calls (new_world d k)).book ≡ recorded d k (entries (calls_taken ladders lawful calls (new_world d k)))
-told_book d k ladders lawful calls = (told_run d k ladders lawful calls).book.records
-
-pub told_allowed : (d : Day) (k ladders : ℕ) (lawful : ℕ → ℤ → Bool) (calls : List Call) → every (allowed d) (entries (calls_taken ladders lawful calls (new_world d k))) ≡ true
-told_allowed d k ladders lawful calls = (told_run d k ladders lawful calls).book.lawful
-
--- and of a run whose beginning was new
+-- and one whose beginning was new
 pub told_from_new : (d : Day) (k ladders : ℕ) (lawful : ℕ → ℤ → Bool) (calls : List Call) (w v : World) → v ≡ after_run ladders lawful calls w → w ≡ new_world d k → Told d k (calls_taken ladders lawful calls w) v
 told_from_new d k ladders lawful calls w v is new =
     subst (Told d k (calls_taken ladders lawful calls w)) (sym is)
