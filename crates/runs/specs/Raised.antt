@@ -1,4 +1,4 @@
--- Entries and series that differ in their prices only, each price in a relation R to its counterpart: with `◌≤ℤ◌`, raised.
+-- Entries and series that differ in their prices only, each price in a relation to its counterpart; with `◌≤ℤ◌`, raised.
 use Rattle.std.specs.Prelude.{◌≡◌, ℤ, ◌≤ℤ◌, Some, None, Option}
 use Rattle.book.specs.declared.entries.Entry.{Entry}
 use Rattle.book.specs.declared.entries.Kind.{Kind}
@@ -49,19 +49,10 @@ pub record SeriesBy (R : Relation ℤ) (s t : Series) : Type 0 where
   pub theory : Matched R s.theory t.theory
   pub ruling : Matched (RulingBy R) s.ruling t.ruling
 
--- ---- raised: no price is lower in the second
-
-abbrev pub ValueRaised : Relation (Option ℤ)
-ValueRaised = Matched ◌≤ℤ◌
-
-abbrev pub KindRaised : Relation Kind
-KindRaised = KindBy ◌≤ℤ◌
+-- ---- raised: only prices differ, and none is lower in the second
 
 abbrev pub EntryRaised : Relation Entry
 EntryRaised = EntryBy ◌≤ℤ◌
-
-abbrev pub RulingRaised : Relation Ruling
-RulingRaised = RulingBy ◌≤ℤ◌
 
 abbrev pub SeriesRaised : Relation Series
 SeriesRaised = SeriesBy ◌≤ℤ◌

@@ -17,8 +17,8 @@ use ladders::sets::LadderSet;
 use rows::places::Edition;
 use tape::tapes::Tape;
 
-/// A run: a house, a book, and the calls to be made on them. Of a run handed over, a clause has the house as `exit.0` and the book
-/// as `exit.1.0`, where it tells what they hold at the return.
+/// A run: a house, a book, and the calls to be made on them. Of a run handed over, a clause has the house as `exit.0` and the
+/// book as `exit.1.0`, where it tells what they hold at the return.
 pub struct Run<'a, L: LadderSet, B> {
     /// The house on which the calls are made.
     pub house: &'a mut House<L>,
@@ -32,7 +32,8 @@ impl<L: LadderSet, B: Book> Run<'_, L, B> {
     // Makes the calls, and then asks.
     fn make_and_ask(self, series: i64, edition: Edition) -> Result<Settlement, HouseFault>
         ensures answer { result ≡ answer_in (run_in L.size L.lawful B.meaning self.entry) series edition }
-        ensures after { world self.exit.0.now (B.meaning self.exit.1.0.now) ≡ end (run_in L.size L.lawful B.meaning self.entry) }
+        ensures after { world self.exit.0.now (B.meaning self.exit.1.0.now)
+            ≡ end (run_in L.size L.lawful B.meaning self.entry) }
         ensures set { set_of self.exit.0.now ≡ set_of self.entry.house.now }
     {
         let Run { house, book, calls } = self;
@@ -57,8 +58,10 @@ fn ask_both<K: LadderSet, J: Book, L: LadderSet, B: Book>(
 ) -> Answers
     ensures one { result.0 ≡ answer_in (run_in K.size K.lawful J.meaning first.entry) series edition }
     ensures other { result.1 ≡ answer_in (run_in L.size L.lawful B.meaning second.entry) series edition }
-    ensures first_after { world first.exit.0.now (J.meaning first.exit.1.0.now) ≡ end (run_in K.size K.lawful J.meaning first.entry) }
-    ensures second_after { world second.exit.0.now (B.meaning second.exit.1.0.now) ≡ end (run_in L.size L.lawful B.meaning second.entry) }
+    ensures first_after { world first.exit.0.now (J.meaning first.exit.1.0.now)
+        ≡ end (run_in K.size K.lawful J.meaning first.entry) }
+    ensures second_after { world second.exit.0.now (B.meaning second.exit.1.0.now)
+        ≡ end (run_in L.size L.lawful B.meaning second.entry) }
     ensures first_set { set_of first.exit.0.now ≡ set_of first.entry.house.now }
     ensures second_set { set_of second.exit.0.now ≡ set_of second.entry.house.now }
 {
@@ -67,15 +70,15 @@ fn ask_both<K: LadderSet, J: Book, L: LadderSet, B: Book>(
     (one, other)
 }
 
-/// Performs two runs and asks both the same. Each house and each book then hold what stands at the end of its run, and each ladder
-/// set is as it was. If the runs can be compared (`Comparable`: new houses on empty books of one day, ladder sets of one meaning,
-/// and in both, by the calls taken, the series listed and the edition open), then
+/// Performs two runs and asks both the same. Each house and each book then hold what they have at the end of its run, and each
+/// ladder set is as it was. If the runs can be compared (`Comparable`: new houses on empty books of one day, ladder sets of one
+/// meaning, and in both, by the calls taken, the series listed and the edition open), then
 /// - the same evidence on the series' path gives the same answer;
 /// - if only prices differ there, and none is lower in the second run, both settle on the same step and place, the second at
 ///   no lower a price, or both are refused from the same origin;
 /// - if only trades, auctions or spreads were added there, what settled settles, at the same place or an earlier one.
 ///
-/// An error in either answer is the fault for which that run's house refuses the question: the edition is not open, the series is
+/// An error in an answer is the fault for which that run's house refuses the question: the edition is not open, the series is
 /// not listed, or no step finds a price.
 pub fn compare<K: LadderSet, J: Book, L: LadderSet, B: Book>(
     first: Run<'_, K, J>,
@@ -83,11 +86,13 @@ pub fn compare<K: LadderSet, J: Book, L: LadderSet, B: Book>(
     series: i64,
     edition: Edition,
 ) -> Answers
-    ensures laws { let one = run_in K.size K.lawful J.meaning first.entry in
-        let other = run_in L.size L.lawful B.meaning second.entry in
-        Laws Comparable one other series edition result.0 result.1 }
-    ensures first_after { world first.exit.0.now (J.meaning first.exit.1.0.now) ≡ end (run_in K.size K.lawful J.meaning first.entry) }
-    ensures second_after { world second.exit.0.now (B.meaning second.exit.1.0.now) ≡ end (run_in L.size L.lawful B.meaning second.entry) }
+    ensures laws { let first_run = run_in K.size K.lawful J.meaning first.entry in
+        let second_run = run_in L.size L.lawful B.meaning second.entry in
+        Laws Comparable first_run second_run series edition result.0 result.1 }
+    ensures first_after { world first.exit.0.now (J.meaning first.exit.1.0.now)
+        ≡ end (run_in K.size K.lawful J.meaning first.entry) }
+    ensures second_after { world second.exit.0.now (B.meaning second.exit.1.0.now)
+        ≡ end (run_in L.size L.lawful B.meaning second.entry) }
     ensures first_set { set_of first.exit.0.now ≡ set_of first.entry.house.now }
     ensures second_set { set_of second.exit.0.now ≡ set_of second.entry.house.now }
 {
@@ -108,9 +113,9 @@ pub fn compare_makes<K: LadderSet + Drop, L: LadderSet + Drop>(
     series: i64,
     edition: Edition,
 ) -> Answers
-    ensures laws { let one = new_run K.size K.lawful set day.day (min capacity 30000) calls.now in
-        let other = new_run L.size L.lawful other_set day.day (min (length slots.old) 30000) other_calls.now in
-        Laws Alike one other series edition result.0 result.1 }
+    ensures laws { let first_run = new_run K.size K.lawful set day.day (min capacity 30000) calls.now in
+        let second_run = new_run L.size L.lawful other_set day.day (min (length slots.old) 30000) other_calls.now in
+        Laws Alike first_run second_run series edition result.0 result.1 }
 {
     let mut house = House::new(set);
     let mut board = Board::new(day, capacity);

@@ -16,7 +16,8 @@ use ladders::sets::LadderSet;
 /// is told by the calls taken.
 pub fn run<L: LadderSet, B: Book>(house: &mut House<L>, book: &mut B, calls: &[Call])
     ensures after { let before = world house.old (B.meaning book.old) in
-        world house.new (B.meaning book.new) ≡ after_run (L.size (set_of house.old)) (L.lawful (set_of house.old)) calls.now before }
+        world house.new (B.meaning book.new)
+        ≡ after_run (L.size (set_of house.old)) (L.lawful (set_of house.old)) calls.now before }
     ensures set { set_of house.new ≡ set_of house.old }
     ensures told { let before = world house.old (B.meaning book.old) in
         let taken = calls_taken (L.size (set_of house.old)) (L.lawful (set_of house.old)) calls.now before in

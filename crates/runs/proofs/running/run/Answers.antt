@@ -13,4 +13,5 @@ returns-clause-told g c =
     let lawful = g.L.LadderSet.lawful (set_of c.args.house.now) in
     let before = world c.args.house.now (g.B.Book.meaning c.args.book.now) in
     let all = take_all c.loop-call.call-index calls c.loop-call-test.false in
-    λ d k new. told_from_new d k size lawful calls before _ (c.loop-call.invariant.0 ∙ ap (λ cs. after_run size lawful cs before) all) new
+    λ d k new. told_from_new d k size lawful calls before _ (c.loop-call.invariant.0
+    ∙ ap (λ cs. after_run size lawful cs before) all) new

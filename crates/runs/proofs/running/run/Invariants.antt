@@ -9,4 +9,6 @@ abbrev pub invariant-loop-call : goal.invariant-loop-call
 invariant-loop-call g l =
     let set = set_of l.initial.house in
     let before = world l.initial.house (g.B.Book.meaning l.initial.book) in
-    (world l.house (g.B.Book.meaning l.book) ≡ after_run (g.L.LadderSet.size set) (g.L.LadderSet.lawful set) (take l.call-index l.calls) before) × (set_of l.house ≡ set)
+    let made = take l.call-index l.calls in
+    (world l.house (g.B.Book.meaning l.book) ≡ after_run (g.L.LadderSet.size set) (g.L.LadderSet.lawful set) made before)
+    × (set_of l.house ≡ set)
