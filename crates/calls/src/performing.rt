@@ -20,7 +20,8 @@ pub fn perform<L: LadderSet, B: Book>(
     ensures answer { let before = world house.old (B.meaning book.old) in
         result ≡ reply (L.size (set_of house.old)) (L.lawful (set_of house.old)) call.now before }
     ensures after { let before = world house.old (B.meaning book.old) in
-        world house.new (B.meaning book.new) ≡ next (L.size (set_of house.old)) (L.lawful (set_of house.old)) call.now before }
+        world house.new (B.meaning book.new)
+        ≡ next (L.size (set_of house.old)) (L.lawful (set_of house.old)) call.now before }
     ensures set { set_of house.new ≡ set_of house.old }
     ensures refused { OnErr result (world house.new (B.meaning book.new) ≡ world house.old (B.meaning book.old)) }
 {

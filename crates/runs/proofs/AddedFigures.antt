@@ -15,14 +15,15 @@ use Rattle.book.specs.declared.figures.Figures.{Figures}
 use Rattle.book.specs.declared.figures.Last.{Last}
 use Rattle.book.specs.declared.figures.Values.{Values}
 use Rattle.book.proofs.Ranges.{allowed_kind}
-use Rattle.runs.specs.Added.{Among, extra}
-use Rattle.runs.specs.Kept.{kept, on_path}
-use Rattle.runs.proofs.KeptFigures.{every_kept, related_figures}
+use Rattle.runs.specs.Added.{Among, is_addition}
+use Rattle.runs.specs.Raised.{Relation}
+use Rattle.runs.specs.PathEntries.{entries_on, on_path}
+use Rattle.runs.proofs.PathFigures.{every_on_path, related_figures}
 
 -- ---- no fewer figures
 
 -- the second is there where the first is
-abbrev pub StillThere : {V : Type 0} → Option V → Option V → Type 0
+abbrev pub StillThere : {V : Type 0} → Relation (Option V)
 StillThere v w = is_some v ≡ true → is_some w ≡ true
 
 pub record ValuesMore (v w : Values) : Type 0 where
@@ -60,7 +61,8 @@ latest_there None t v = refl
 latest_there (Some o) t v = cond_both (le_z o.stamp t) (Some (record { stamp = t; value = v })) (Some o) (λ l. is_some l ≡ true) (λ later. refl) (λ earlier. refl)
 
 -- an added trade: lots are no fewer than 1
-added_trade : (t p n : ℤ) (f g : Figures) → (price_lawful p && lots_lawful n) ≡ true → FiguresMore f g → FiguresMore f (traded t p n g)
+added_trade : (t p n : ℤ) (f g : Figures) → (price_lawful p && lots_lawful n) ≡ true → FiguresMore f g
+    → FiguresMore f (traded t p n g)
 added_trade t p n f g h m =
     let some = (and_parts (le_z (pos 1) n) (le_z n (pos 100000)) (and_parts (price_lawful p) (lots_lawful n) h).1).0 in
     let lots = m.lots in
@@ -69,7 +71,8 @@ added_trade t p n f g h m =
 added_auction : (t p : ℤ) (f g : Figures) → FiguresMore f g → FiguresMore f (with_auction t p g)
 added_auction t p f g m = record { trade = m.trade; auction = λ there. latest_there g.auction t p; spread = m.spread; quote = m.quote; lots = m.lots }
 
-added_with_entry : (k : Kind) (t : ℤ) (f g : Figures) → kind_lawful k ≡ true → extra k ≡ true → FiguresMore f g → FiguresMore f (with_entry k t g)
+added_with_entry : (k : Kind) (t : ℤ) (f g : Figures) → kind_lawful k ≡ true → is_addition k ≡ true → FiguresMore f g
+    → FiguresMore f (with_entry k t g)
 added_with_entry (Trade p n) t f g h is m = added_trade t p n f g h m
 added_with_entry (Auction p n) t f g h is m = added_trade t p n f (with_auction t p g) h (added_auction t p f g m)
 added_with_entry (Leg p n) t f g h is m = absurd (true≢false (sym is))
@@ -91,11 +94,13 @@ both_with_entry (Spread v) t f g m = record { trade = m.trade; auction = m.aucti
 both_with_entry (Quote b a) t f g m =
     record { trade = m.trade; auction = m.auction; spread = m.spread; quote = ap (λ q. latest q t (record { bid = b; ask = a })) m.quote; lots = m.lots }
 
-added_entered : (s : ℕ) (x : ℤ × ℤ) (f g : Figures) (e : Entry) → kind_lawful e.kind ≡ true → extra e.kind ≡ true → FiguresMore f g → FiguresMore f (entered_in s x g e)
+added_entered : (s : ℕ) (x : ℤ × ℤ) (f g : Figures) (e : Entry) → kind_lawful e.kind ≡ true → is_addition e.kind ≡ true
+    → FiguresMore f g → FiguresMore f (entered_in s x g e)
 added_entered s x f g e h is m =
     cond_both (concerns s x e) (with_entry e.kind e.stamp g) g (FiguresMore f) (λ yes. added_with_entry e.kind e.stamp f g h is m) (λ no. m)
 
-both_entered : (s : ℕ) (x : ℤ × ℤ) (f g : Figures) (e : Entry) → FiguresMore f g → FiguresMore (entered_in s x f e) (entered_in s x g e)
+both_entered : (s : ℕ) (x : ℤ × ℤ) (f g : Figures) (e : Entry) → FiguresMore f g
+    → FiguresMore (entered_in s x f e) (entered_in s x g e)
 both_entered s x f g e m = by (concerns s x e)
   where
     by : (b : Bool) → FiguresMore (cond b (with_entry e.kind e.stamp f) f) (cond b (with_entry e.kind e.stamp g) g)
@@ -104,7 +109,8 @@ both_entered s x f g e m = by (concerns s x e)
 
 -- ---- all entries
 
-more_fold : (d : Day) (s : ℕ) (x : ℤ × ℤ) (f g : Figures) (es fs : List Entry) → every (allowed d) fs ≡ true → Among es fs → FiguresMore f g → FiguresMore (fold (entered_in s x) f es) (fold (entered_in s x) g fs)
+more_fold : (d : Day) (s : ℕ) (x : ℤ × ℤ) (f g : Figures) (es fs : List Entry) → every (allowed d) fs ≡ true → Among es fs
+    → FiguresMore f g → FiguresMore (fold (entered_in s x) f es) (fold (entered_in s x) g fs)
 more_fold d s x f g [] [] h among m = m
 more_fold d s x f g [] (e ∷ fs) h (is, rest) m =
     let both = and_parts (allowed d e) (every (allowed d) fs) h in
@@ -121,8 +127,10 @@ more_empty : FiguresMore empty empty
 more_empty = record { trade = λ there. there; auction = λ there. there; spread = λ there. there; quote = refl; lots = omega (arith, ints) }
 
 -- entries added on a path take no figure of its series away, change no quote, and leave no fewer lots
-pub more_figures : (d : Day) (path : List ℕ) (es fs : List Entry) (s w : ℕ) → every (allowed d) fs ≡ true → Among (kept path es) (kept path fs) → on_path path (pos s) ≡ true → ValuesMore (values (figures_of d es s w)) (values (figures_of d fs s w))
+pub more_figures : (d : Day) (path : List ℕ) (es fs : List Entry) (s w : ℕ) → every (allowed d) fs ≡ true
+    → Among (entries_on path es) (entries_on path fs) → on_path path (pos s) ≡ true
+    → ValuesMore (values (figures_of d es s w)) (values (figures_of d fs s w))
 more_figures d path es fs s w h among on =
     more_values (figures_of d es s w) (figures_of d fs s w)
     (related_figures d path es fs s w FiguresMore on
-    (more_fold d s (edges d w) empty empty (kept path es) (kept path fs) (every_kept (allowed d) path fs h) among more_empty))
+    (more_fold d s (edges d w) empty empty (entries_on path es) (entries_on path fs) (every_on_path (allowed d) path fs h) among more_empty))

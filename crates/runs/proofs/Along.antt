@@ -6,7 +6,7 @@ use Rattle.rows.specs.declared.places.Edition.{Edition}
 use Rattle.house.specs.Answers.{Answer, answered, path_answer}
 use Rattle.house.specs.Found.{Station}
 use Rattle.house.specs.Series.{lawful_series}
-use Rattle.runs.specs.Raised.{Matched}
+use Rattle.runs.specs.Raised.{Matched, Relation}
 
 -- what the house and the book keep of a station: a lawful series, and in each window figures of some number of entries
 pub record StationLawful (x : Station) : Type 0 where
@@ -14,10 +14,11 @@ pub record StationLawful (x : Station) : Type 0 where
   pub figures : (w : ℕ) → (k : ℕ) × (bounded k (x.figures w) ≡ true)
 
 -- two lawful stations with a relation between them
-abbrev pub LawfulPair : (Station → Station → Type 0) → Station → Station → Type 0
+abbrev pub LawfulPair : Relation Station → Relation Station
 LawfulPair R x y = StationLawful x × StationLawful y × R x y
 
-pub lawful_pairs : (R : Station → Station → Type 0) (xs ys : List Station) → AllByRecursion StationLawful xs → AllByRecursion StationLawful ys → AllZip R xs ys → AllZip (LawfulPair R) xs ys
+pub lawful_pairs : (R : Relation Station) (xs ys : List Station) → AllByRecursion StationLawful xs
+    → AllByRecursion StationLawful ys → AllZip R xs ys → AllZip (LawfulPair R) xs ys
 lawful_pairs R [] [] l m r = tt
 lawful_pairs R [] (y ∷ ys) l m r = r
 lawful_pairs R (x ∷ xs) [] l m r = r
@@ -25,7 +26,9 @@ lawful_pairs R (x ∷ xs) (y ∷ ys) l m r = ((l.0, m.0, r.0), lawful_pairs R xs
 
 -- where related stations with related answers for their references have related answers, so have the ends of two paths of
 -- related stations
-pub along : (P : ℕ → ℤ → Bool) (ed : Edition) (R : Station → Station → Type 0) (A : Answer → Answer → Type 0) → ((x y : Station) (u v : Option Answer) → R x y → Matched A u v → A (answered P ed x u) (answered P ed y v)) → (x y : Station) (xs ys : List Station) → AllZip R (x ∷ xs) (y ∷ ys) → A (path_answer P ed x xs) (path_answer P ed y ys)
+pub along : (P : ℕ → ℤ → Bool) (ed : Edition) (R : Relation Station) (A : Relation Answer)
+    → ((x y : Station) (u v : Option Answer) → R x y → Matched A u v → A (answered P ed x u) (answered P ed y v))
+    → (x y : Station) (xs ys : List Station) → AllZip R (x ∷ xs) (y ∷ ys) → A (path_answer P ed x xs) (path_answer P ed y ys)
 along P ed R A next x y [] [] r = next x y None None r.0 tt
 along P ed R A next x y [] (b ∷ ys) r = absurd r.1
 along P ed R A next x y (a ∷ xs) [] r = absurd r.1

@@ -1,4 +1,4 @@
-pub mod KeptFigures
+pub mod PathFigures
 pub mod RaisedFigures
 pub mod AddedFigures
 pub mod Along

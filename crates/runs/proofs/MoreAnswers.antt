@@ -19,7 +19,7 @@ use Rattle.house.specs.Found.{Station, average, finds, found, less, quoted}
 use Rattle.house.specs.declared.answers.Settlement.{Settlement}
 use Rattle.house.specs.declared.series.Ruling as rulings
 use Rattle.house.specs.declared.series.Series.{Series}
-use Rattle.runs.specs.Raised.{Matched}
+use Rattle.runs.specs.Raised.{Matched, Relation}
 use Rattle.runs.specs.Laws.{NoLater}
 use Rattle.runs.proofs.AddedFigures.{StillThere, ValuesMore}
 use Rattle.runs.proofs.Along.{LawfulPair, StationLawful, along, lawful_pairs}
@@ -41,7 +41,8 @@ some_nearest P n d = by (inside n d)
     by false = refl
 
 -- where there are lots, more lots leave an average
-average_more : (P : ℤ → Bool) (k l : ℕ) (v w : Values) → bounded k v ≡ true → bounded l w ≡ true → v.lots ≤ℤ w.lots → StillThere (average P v.money v.lots) (average P w.money w.lots)
+average_more : (P : ℤ → Bool) (k l : ℕ) (v w : Values) → bounded k v ≡ true → bounded l w ≡ true → v.lots ≤ℤ w.lots
+    → StillThere (average P v.money v.lots) (average P w.money w.lots)
 average_more P k l v w h m more there =
     let some = ltb-true 0 (nat_abs v.lots) (sym (average_inside k v h) ∙ (sym (some_nearest P v.money (nat_abs v.lots)) ∙ there)) in
     let none_negative = (parts k v h).lots_from in
@@ -55,7 +56,8 @@ less_more (Some r) (Some q) (Some s) None h m there = m refl
 less_more (Some r) (Some q) (Some s) (Some t) h m there = refl
 
 -- a step that finds in the first finds in the second
-finds_more : (P : ℤ → Bool) (r q : Option ℤ) (s : Series) (v w : Values) (k l : ℕ) → bounded k v ≡ true → bounded l w ≡ true → StillThere r q → ValuesMore v w → (step : Step) → StillThere (finds P r s v step) (finds P q s w step)
+finds_more : (P : ℤ → Bool) (r q : Option ℤ) (s : Series) (v w : Values) (k l : ℕ) → bounded k v ≡ true → bounded l w ≡ true
+    → StillThere r q → ValuesMore v w → (step : Step) → StillThere (finds P r s v step) (finds P q s w step)
 finds_more P r q s v w k l lv lw reference more Auction = more.auction
 finds_more P r q s v w k l lv lw reference more Trade = more.trade
 finds_more P r q s v w k l lv lw reference more Quote = subst (λ (o : Bool). is_some (quoted P v.quote) ≡ true → o ≡ true) (ap (λ o. is_some (quoted P o)) more.quote) (λ there. there)
@@ -71,7 +73,7 @@ finds_more P r q s v w k l lv lw reference more Ruling = λ there. there
 -- ---- one row
 
 -- where the first row finds, the second finds at no later a place
-abbrev FoundNoLater : Option Settlement → Option Settlement → Type 0
+abbrev FoundNoLater : Relation (Option Settlement)
 FoundNoLater None o = Unit {0}
 FoundNoLater (Some s) None = ⊥
 FoundNoLater (Some s) (Some t) = t.place ≤ s.place
@@ -89,11 +91,13 @@ first_from f j k (p ∷ ps) h = by (f p) (first_from f j (k + 1) ps (omega arith
     by None later = later
     by (Some v) later = h
 
-first_more : (f g : Place → Option ℤ) → ((p : Place) → StillThere (f p) (g p)) → (k : ℕ) (ps : List Place) → FoundNoLater (first_found f k ps) (first_found g k ps)
+first_more : (f g : Place → Option ℤ) → ((p : Place) → StillThere (f p) (g p)) → (k : ℕ) (ps : List Place)
+    → FoundNoLater (first_found f k ps) (first_found g k ps)
 first_more f g more k [] = tt
 first_more f g more k (p ∷ ps) = by (f p) (g p) (first_found f (k + 1) ps) (more p) (first_more f g more (k + 1) ps) (first_from f k (k + 1) ps (omega arith))
   where
-    by : (v w : Option ℤ) (s : Option Settlement) → StillThere v w → FoundNoLater s (first_found g (k + 1) ps) → From k s → FoundNoLater (or_later v p.step k s) (or_later w p.step k (first_found g (k + 1) ps))
+    by : (v w : Option ℤ) (s : Option Settlement) → StillThere v w → FoundNoLater s (first_found g (k + 1) ps) → From k s
+        → FoundNoLater (or_later v p.step k s) (or_later w p.step k (first_found g (k + 1) ps))
     by None None s h later from = later
     by None (Some w) None h later from = tt
     by None (Some w) (Some s) h later from = from
@@ -123,13 +127,15 @@ price_more (Some (Ok s)) (Some (Err p)) h there = absurd h
 price_more (Some (Err o)) (Some b) h there = absurd (false≢true there)
 
 module _ (P : ℕ → ℤ → Bool) (ed : Edition) where
-  found_more : (x y : Station) (r q : Option ℤ) → LawfulPair StationMore x y → StillThere r q → (p : Place) → StillThere (found P r x p) (found P q y p)
+  found_more : (x y : Station) (r q : Option ℤ) → LawfulPair StationMore x y → StillThere r q → (p : Place)
+      → StillThere (found P r x p) (found P q y p)
   found_more x y r q (lx, ly, more) reference p =
       let w = window_number p.window in
       subst (λ (s : Series). StillThere (found P r x p) (finds (P s.terms.ladder) q s (y.figures w) p.step)) more.series
       (finds_more (P x.series.terms.ladder) r q x.series (x.figures w) (y.figures w) (lx.figures w).0 (ly.figures w).0 (lx.figures w).1 (ly.figures w).1 reference (more.figures w) p.step)
 
-  answered_more : (x y : Station) (u v : Option Answer) → LawfulPair StationMore x y → Matched NoLater u v → NoLater (answered P ed x u) (answered P ed y v)
+  answered_more : (x y : Station) (u v : Option Answer) → LawfulPair StationMore x y → Matched NoLater u v
+      → NoLater (answered P ed x u) (answered P ed y v)
   answered_more x y u v pair h =
       let f = found P (price_of u) x in
       let g = found P (price_of v) y in
@@ -139,5 +145,7 @@ module _ (P : ℕ → ℤ → Bool) (ed : Edition) where
       (first_more f g (found_more x y (price_of u) (price_of v) pair (price_more u v h)) 1 (row_of x.series ed))))
 
   -- where stations settle, stations with more figures settle too, at no later a place
-  pub more_answers : (x y : Station) (xs ys : List Station) → AllByRecursion StationLawful (x ∷ xs) → AllByRecursion StationLawful (y ∷ ys) → AllZip StationMore (x ∷ xs) (y ∷ ys) → NoLater (path_answer P ed x xs) (path_answer P ed y ys)
+  pub more_answers : (x y : Station) (xs ys : List Station) → AllByRecursion StationLawful (x ∷ xs)
+      → AllByRecursion StationLawful (y ∷ ys) → AllZip StationMore (x ∷ xs) (y ∷ ys)
+      → NoLater (path_answer P ed x xs) (path_answer P ed y ys)
   more_answers x y xs ys l m more = along P ed (LawfulPair StationMore) NoLater answered_more x y xs ys (lawful_pairs StationMore (x ∷ xs) (y ∷ ys) l m more)

@@ -30,7 +30,7 @@ use Rattle.house.specs.declared.terms.Listing.{Listing}
 use Rattle.house.specs.declared.terms.Terms.{Terms}
 use Rattle.house.proofs.Admitted.{Admitted, listed_have, listed_lawful}
 use Rattle.house.proofs.Slots.{lawful_ruled, lawful_theory}
-use Rattle.runs.specs.Readings.{entries, entries_in, last_ruling, last_theory, listed, phase_after, phase_by, phase_left, ruling_left, stands, terms_by, terms_in, theory_left}
+use Rattle.runs.specs.Readings.{entries, entries_in, last_ruling, last_theory, terms_listed, phase_after, phase_by, phase_left, ruling_left, series_after, terms_by, terms_in, theory_left}
 use Rattle.calls.specs.Worlds.{World, is_taken, new_world, next}
 use Rattle.runs.specs.Told.{BookTold, RollTold, Told}
 use Rattle.calls.specs.declared.call.Call.{Call}
@@ -46,11 +46,11 @@ told_new d k = record {
 
 -- ---- readings of one call more
 
-listed_push : (xs : List Call) (c : Call) → listed (xs ++ (c ∷ [])) ≡ listed xs ++ terms_in c
-listed_push xs c = sym (flat_map_more terms_in [] xs c)
+terms_listed_push : (xs : List Call) (c : Call) → terms_listed (xs ++ (c ∷ [])) ≡ terms_listed xs ++ terms_in c
+terms_listed_push xs c = sym (flat_map_more terms_in [] xs c)
 
-listed_same : (xs : List Call) (c : Call) → terms_in c ≡ [] → listed (xs ++ (c ∷ [])) ≡ listed xs
-listed_same xs c none = listed_push xs c ∙ ap (λ ts. listed xs ++ ts) none ∙ append-nil (listed xs)
+terms_listed_same : (xs : List Call) (c : Call) → terms_in c ≡ [] → terms_listed (xs ++ (c ∷ [])) ≡ terms_listed xs
+terms_listed_same xs c none = terms_listed_push xs c ∙ ap (λ ts. terms_listed xs ++ ts) none ∙ append-nil (terms_listed xs)
 
 entries_push : (xs : List Call) (c : Call) → entries (xs ++ (c ∷ [])) ≡ entries xs ++ entries_in c
 entries_push xs c = sym (flat_map_more entries_in [] xs c)
@@ -59,28 +59,30 @@ entries_same : (xs : List Call) (c : Call) → entries_in c ≡ [] → entries (
 entries_same xs c none = entries_push xs c ∙ ap (λ es. entries xs ++ es) none ∙ append-nil (entries xs)
 
 -- from its parts
-stands_as : (xs : List Call) (c : Call) (n : ℕ) (t : Terms) (o : Option ℤ) (q : Option Ruling) → get_or (listed (xs ++ (c ∷ []))) n blank.terms ≡ t → theory_left n (last_theory n xs) c ≡ o → ruling_left n (last_ruling n xs) c ≡ q → stands (xs ++ (c ∷ [])) n ≡ record { terms = t; theory = o; ruling = q }
-stands_as xs c n t o q terms theory ruling =
+series_after_as : (xs : List Call) (c : Call) (n : ℕ) (t : Terms) (o : Option ℤ) (q : Option Ruling) → get_or (terms_listed (xs ++ (c ∷ []))) n blank.terms ≡ t → theory_left n (last_theory n xs) c ≡ o → ruling_left n (last_ruling n xs) c ≡ q → series_after (xs ++ (c ∷ [])) n ≡ record { terms = t; theory = o; ruling = q }
+series_after_as xs c n t o q terms theory ruling =
     let supplied = fold_push (theory_left n) None xs c ∙ theory in
     let ruled = fold_push (ruling_left n) None xs c ∙ ruling in
     λ i. record { terms = terms i; theory = supplied i; ruling = ruled i }
 
 -- after a call that lists nothing
-stands_with : (xs : List Call) (c : Call) (n : ℕ) (o : Option ℤ) (q : Option Ruling) → terms_in c ≡ [] → theory_left n (last_theory n xs) c ≡ o → ruling_left n (last_ruling n xs) c ≡ q → stands (xs ++ (c ∷ [])) n ≡ record { terms = (stands xs n).terms; theory = o; ruling = q }
-stands_with xs c n o q none theory ruling =
-    stands_as xs c n (stands xs n).terms o q (ap (λ ts. get_or ts n blank.terms) (listed_same xs c none)) theory ruling
+series_after_with : (xs : List Call) (c : Call) (n : ℕ) (o : Option ℤ) (q : Option Ruling) → terms_in c ≡ [] → theory_left n (last_theory n xs) c ≡ o → ruling_left n (last_ruling n xs) c ≡ q → series_after (xs ++ (c ∷ [])) n ≡ record { terms = (series_after xs n).terms; theory = o; ruling = q }
+series_after_with xs c n o q none theory ruling =
+    series_after_as xs c n (series_after xs n).terms o q (ap (λ ts. get_or ts n blank.terms) (terms_listed_same xs c none)) theory ruling
 
 -- ---- a call that leaves the series, or the book
 
-roll_stays : (xs : List Call) (c : Call) (r : Roll) → terms_in c ≡ [] → ((n : ℕ) (o : Option ℤ) → theory_left n o c ≡ o) → ((n : ℕ) (q : Option Ruling) → ruling_left n q c ≡ q) → RollTold xs r → RollTold (xs ++ (c ∷ [])) r
+roll_stays : (xs : List Call) (c : Call) (r : Roll) → terms_in c ≡ [] → ((n : ℕ) (o : Option ℤ) → theory_left n o c ≡ o)
+    → ((n : ℕ) (q : Option Ruling) → ruling_left n q c ≡ q) → RollTold xs r → RollTold (xs ++ (c ∷ [])) r
 roll_stays xs c r none theory ruling t = record {
-  series = λ n. t.series n ∙ sym (stands_with xs c n (last_theory n xs) (last_ruling n xs) none (theory n (last_theory n xs)) (ruling n (last_ruling n xs)));
-  count = t.count ∙ sym (ap length (listed_same xs c none));
+  series = λ n. t.series n ∙ sym (series_after_with xs c n (last_theory n xs) (last_ruling n xs) none (theory n (last_theory n xs)) (ruling n (last_ruling n xs)));
+  count = t.count ∙ sym (ap length (terms_listed_same xs c none));
   lawful = t.lawful;
   unused = t.unused;
 }
 
-book_stays : (d : Day) (k : ℕ) (xs : List Call) (c : Call) (m : Ledger) → entries_in c ≡ [] → BookTold d k xs m → BookTold d k (xs ++ (c ∷ [])) m
+book_stays : (d : Day) (k : ℕ) (xs : List Call) (c : Call) (m : Ledger) → entries_in c ≡ [] → BookTold d k xs m
+    → BookTold d k (xs ++ (c ∷ [])) m
 book_stays d k xs c m none t =
     let same = sym (entries_same xs c none) in
     record {
@@ -97,7 +99,8 @@ placed_at k s all n e = cond-true (eqb n k) s (all n) (eq-eqb n k e)
 placed_off : (k : ℕ) (s : Series) (all : ℕ → Series) (n : ℕ) → (n ≡ k → ⊥) → placed k s all n ≡ all n
 placed_off k s all n o = cond-false (eqb n k) s (all n) (ne_eqb n k o)
 
-placed_lawful : (k : ℕ) (s : Series) (all : ℕ → Series) → lawful_series k s ≡ true → ((n : ℕ) → lawful_series n (all n) ≡ true) → (n : ℕ) → lawful_series n (placed k s all n) ≡ true
+placed_lawful : (k : ℕ) (s : Series) (all : ℕ → Series) → lawful_series k s ≡ true → ((n : ℕ) → lawful_series n (all n) ≡ true)
+    → (n : ℕ) → lawful_series n (placed k s all n) ≡ true
 placed_lawful k s all one others n =
     ⊎_elim
     (λ e. ap (lawful_series n) (placed_at k s all n e) ∙ ap (λ m. lawful_series m s) e ∙ one)
@@ -106,7 +109,8 @@ placed_lawful k s all one others n =
 
 -- ---- listings
 
-get_or_push_other : {X : Type 0} (xs : List X) (x d : X) (n : ℕ) → (n ≡ length xs → ⊥) → get_or (xs ++ (x ∷ [])) n d ≡ get_or xs n d
+get_or_push_other : {X : Type 0} (xs : List X) (x d : X) (n : ℕ) → (n ≡ length xs → ⊥)
+    → get_or (xs ++ (x ∷ [])) n d ≡ get_or xs n d
 get_or_push_other xs x d n other =
     ⊎_elim
     (λ l. get_or_append_left xs (x ∷ []) d n l)
@@ -114,10 +118,12 @@ get_or_push_other xs x d n other =
     (cases_lt n (length xs))
 
 -- the next number was unused, so that no value stands there yet
-roll_listed : (xs : List Call) (l : Listing) (r : Roll) → lawful_series r.count (new_series (terms_by (family_of l.family) l)) ≡ true → RollTold xs r → RollTold (xs ++ (ListCall l ∷ [])) (with_listed (terms_by (family_of l.family) l) r)
+roll_listed : (xs : List Call) (l : Listing) (r : Roll)
+    → lawful_series r.count (new_series (terms_by (family_of l.family) l)) ≡ true → RollTold xs r
+    → RollTold (xs ++ (ListCall l ∷ [])) (with_listed (terms_by (family_of l.family) l) r)
 roll_listed xs l r lawful t = record {
   series = λ n. ⊎_elim (here n) (other n) (cases_eq n r.count);
-  count = ap (λ n. n + 1) t.count ∙ sym (ap length more ∙ length_push (listed xs) terms);
+  count = ap (λ n. n + 1) t.count ∙ sym (ap length more ∙ length_push (terms_listed xs) terms);
   lawful = placed_lawful r.count (new_series terms) r.series lawful t.lawful;
   unused = λ n h. placed_off r.count (new_series terms) r.series n (λ e. omega arith) ∙ t.unused n (omega arith);
 }
@@ -125,31 +131,32 @@ roll_listed xs l r lawful t = record {
     terms : Terms
     terms = terms_by (family_of l.family) l
 
-    more : listed (xs ++ (ListCall l ∷ [])) ≡ listed xs ++ (terms ∷ [])
-    more = listed_push xs (ListCall l)
+    more : terms_listed (xs ++ (ListCall l ∷ [])) ≡ terms_listed xs ++ (terms ∷ [])
+    more = terms_listed_push xs (ListCall l)
 
-    here : (n : ℕ) → n ≡ r.count → (with_listed terms r).series n ≡ stands (xs ++ (ListCall l ∷ [])) n
+    here : (n : ℕ) → n ≡ r.count → (with_listed terms r).series n ≡ series_after (xs ++ (ListCall l ∷ [])) n
     here n e =
-        let new : stands xs n ≡ blank = sym (t.series n) ∙ t.unused n (omega arith) in
+        let new : series_after xs n ≡ blank = sym (t.series n) ∙ t.unused n (omega arith) in
         placed_at r.count (new_series terms) r.series n e
         ∙ sym
-        (stands_as xs (ListCall l) n terms None None
-        (ap (λ ts. get_or ts n blank.terms) more ∙ get_or_push (listed xs) terms blank.terms n (sym (e ∙ t.count)))
+        (series_after_as xs (ListCall l) n terms None None
+        (ap (λ ts. get_or ts n blank.terms) more ∙ get_or_push (terms_listed xs) terms blank.terms n (sym (e ∙ t.count)))
         (ap (λ (s : Series). s.theory) new)
         (ap (λ (s : Series). s.ruling) new))
 
-    other : (n : ℕ) → (n ≡ r.count → ⊥) → (with_listed terms r).series n ≡ stands (xs ++ (ListCall l ∷ [])) n
+    other : (n : ℕ) → (n ≡ r.count → ⊥) → (with_listed terms r).series n ≡ series_after (xs ++ (ListCall l ∷ [])) n
     other n o =
         placed_off r.count (new_series terms) r.series n o
         ∙ t.series n
         ∙ sym
-        (stands_as xs (ListCall l) n (stands xs n).terms (last_theory n xs) (last_ruling n xs)
-        (ap (λ ts. get_or ts n blank.terms) more ∙ get_or_push_other (listed xs) terms blank.terms n (λ e. o (e ∙ sym t.count)))
+        (series_after_as xs (ListCall l) n (series_after xs n).terms (last_theory n xs) (last_ruling n xs)
+        (ap (λ ts. get_or ts n blank.terms) more ∙ get_or_push_other (terms_listed xs) terms blank.terms n (λ e. o (e ∙ sym t.count)))
         refl
         refl)
 
 -- the terms found, if any, are those of the listing
-listed_named : (ladders : ℕ) (l : Listing) (s : State) → IfOk (listed_terms ladders l s) (λ terms. terms ≡ terms_by (family_of l.family) l)
+listed_named : (ladders : ℕ) (l : Listing) (s : State)
+    → IfOk (listed_terms ladders l s) (λ terms. terms ≡ terms_by (family_of l.family) l)
 listed_named ladders l s =
     listed_have (λ (terms : Terms). terms ≡ terms_by (family_of l.family) l) ladders l s
     (λ f is _ _. ap (λ o. terms_by o l) (sym is))
@@ -175,10 +182,13 @@ other_number : (z : ℤ) (n : ℕ) → (n ≡ nat_abs z → ⊥) → is_series n
 other_number (pos m) n other = ne_eqb m n (λ e. other (sym e))
 other_number (negsuc m) n other = refl
 
-roll_changed : (xs : List Call) (c : Call) (r : Roll) (k : ℕ) (s : Series) → terms_in c ≡ [] → k < r.count → lawful_series k s ≡ true → s ≡ stands (xs ++ (c ∷ [])) k → ((n : ℕ) → (n ≡ k → ⊥) → stands (xs ++ (c ∷ [])) n ≡ stands xs n) → RollTold xs r → RollTold (xs ++ (c ∷ [])) (changed k s r)
+roll_changed : (xs : List Call) (c : Call) (r : Roll) (k : ℕ) (s : Series) → terms_in c ≡ [] → k < r.count
+    → lawful_series k s ≡ true → s ≡ series_after (xs ++ (c ∷ [])) k
+    → ((n : ℕ) → (n ≡ k → ⊥) → series_after (xs ++ (c ∷ [])) n ≡ series_after xs n) → RollTold xs r
+    → RollTold (xs ++ (c ∷ [])) (changed k s r)
 roll_changed xs c r k s none few lawful here others t = record {
-  series = λ n. ⊎_elim (λ e. placed_at k s r.series n e ∙ here ∙ ap (stands (xs ++ (c ∷ []))) (sym e)) (λ o. placed_off k s r.series n o ∙ t.series n ∙ sym (others n o)) (cases_eq n k);
-  count = t.count ∙ sym (ap length (listed_same xs c none));
+  series = λ n. ⊎_elim (λ e. placed_at k s r.series n e ∙ here ∙ ap (series_after (xs ++ (c ∷ []))) (sym e)) (λ o. placed_off k s r.series n o ∙ t.series n ∙ sym (others n o)) (cases_eq n k);
+  count = t.count ∙ sym (ap length (terms_listed_same xs c none));
   lawful = placed_lawful k s r.series lawful t.lawful;
   unused = λ n h. placed_off k s r.series n (λ e. omega arith) ∙ t.unused n h;
 }
@@ -189,7 +199,8 @@ both_met true true f g h = (refl, refl)
 both_met true false f g h = absurd (true≢false (sym h))
 both_met false b f g h = absurd (true≢false (sym h))
 
-told_theory : (xs : List Call) (z : ℤ) (value : Option ℤ) (s : State) → is_ok (theory_answer z value s) ≡ true → RollTold xs s.roll → RollTold (xs ++ (SetTheory z value ∷ [])) (theory_after z value s).roll
+told_theory : (xs : List Call) (z : ℤ) (value : Option ℤ) (s : State) → is_ok (theory_answer z value s) ≡ true
+    → RollTold xs s.roll → RollTold (xs ++ (SetTheory z value ∷ [])) (theory_after z value s).roll
 told_theory xs z value s ok t =
     let r = s.roll in
     let k = nat_abs z in
@@ -201,15 +212,17 @@ told_theory xs z value s ok t =
     subst (λ (a : Result Unit HouseFault). RollTold (xs ++ (c ∷ [])) (moved a (λ _. record { phase = s.phase; roll = changed k (with_theory value x) r }) s).roll) (sym f.1)
     (roll_changed xs c r k (with_theory value x) refl number.0
     (lawful_theory k x value (t.lawful k) met.1)
-    (ap (with_theory value) (t.series k) ∙ sym (stands_with xs c k value (last_ruling k xs) refl (cond-true (is_series k z) value (last_theory k xs) number.1) refl))
-    (λ n o. stands_with xs c n (last_theory n xs) (last_ruling n xs) refl (cond-false (is_series n z) value (last_theory n xs) (other_number z n o)) refl)
+    (ap (with_theory value) (t.series k) ∙ sym (series_after_with xs c k value (last_ruling k xs) refl (cond-true (is_series k z) value (last_theory k xs) number.1) refl))
+    (λ n o. series_after_with xs c n (last_theory n xs) (last_ruling n xs) refl (cond-false (is_series n z) value (last_theory n xs) (other_number z n o)) refl)
     t)
 
 ruling_lawful : (value : Option ℤ) (first : Bool) → may_rule value first ≡ true → lawful_ruling (ruling_of value first) ≡ true
 ruling_lawful None first h = refl
 ruling_lawful (Some v) first h = h
 
-told_ruling : (xs : List Call) (z : ℤ) (value : Option ℤ) (first : Bool) (s : State) → is_ok (ruling_answer z value first s) ≡ true → RollTold xs s.roll → RollTold (xs ++ (SetRuling z value first ∷ [])) (ruling_after z value first s).roll
+told_ruling : (xs : List Call) (z : ℤ) (value : Option ℤ) (first : Bool) (s : State)
+    → is_ok (ruling_answer z value first s) ≡ true → RollTold xs s.roll
+    → RollTold (xs ++ (SetRuling z value first ∷ [])) (ruling_after z value first s).roll
 told_ruling xs z value first s ok t =
     let r = s.roll in
     let k = nat_abs z in
@@ -222,18 +235,21 @@ told_ruling xs z value first s ok t =
     subst (λ (a : Result Unit HouseFault). RollTold (xs ++ (c ∷ [])) (moved a (λ _. record { phase = s.phase; roll = changed k (with_ruling ruling x) r }) s).roll) (sym f.1)
     (roll_changed xs c r k (with_ruling ruling x) refl number.0
     (lawful_ruled k x ruling (t.lawful k) (ruling_lawful value first met.1))
-    (ap (with_ruling ruling) (t.series k) ∙ sym (stands_with xs c k (last_theory k xs) ruling refl refl (cond-true (is_series k z) ruling (last_ruling k xs) number.1)))
-    (λ n o. stands_with xs c n (last_theory n xs) (last_ruling n xs) refl refl (cond-false (is_series n z) ruling (last_ruling n xs) (other_number z n o)))
+    (ap (with_ruling ruling) (t.series k) ∙ sym (series_after_with xs c k (last_theory k xs) ruling refl refl (cond-true (is_series k z) ruling (last_ruling k xs) number.1)))
+    (λ n o. series_after_with xs c n (last_theory n xs) (last_ruling n xs) refl refl (cond-false (is_series n z) ruling (last_ruling n xs) (other_number z n o)))
     t)
 
 -- ---- bells
 
 -- a call that rings no bell leaves the phase
-phase_kept : (xs : List Call) (c : Call) (p : Phase) → ((q : Phase) → phase_left q c ≡ q) → p ≡ phase_after xs → p ≡ phase_after (xs ++ (c ∷ []))
+phase_kept : (xs : List Call) (c : Call) (p : Phase) → ((q : Phase) → phase_left q c ≡ q) → p ≡ phase_after xs
+    → p ≡ phase_after (xs ++ (c ∷ []))
 phase_kept xs c p none is = is ∙ sym (fold_push phase_left phases.Listing xs c ∙ none (phase_after xs))
 
 -- and so it does where it changes the state otherwise
-phase_stays : {A : Type 0} (xs : List Call) (c : Call) (r : Result A HouseFault) (move : A → State) (s : State) → ((p : Phase) → phase_left p c ≡ p) → ((a : A) → (move a).phase ≡ s.phase) → s.phase ≡ phase_after xs → (moved r move s).phase ≡ phase_after (xs ++ (c ∷ []))
+phase_stays : {A : Type 0} (xs : List Call) (c : Call) (r : Result A HouseFault) (move : A → State) (s : State)
+    → ((p : Phase) → phase_left p c ≡ p) → ((a : A) → (move a).phase ≡ s.phase) → s.phase ≡ phase_after xs
+    → (moved r move s).phase ≡ phase_after (xs ++ (c ∷ []))
 phase_stays xs c r move s none same is = by r ∙ phase_kept xs c s.phase none is
   where
     by : (q : Result _ HouseFault) → (moved q move s).phase ≡ s.phase
@@ -262,7 +278,9 @@ book_ok (Ok u) (Ok v) h = refl
 book_ok (Ok u) (Err f) h = h
 book_ok (Err f) b h = absurd (true≢false (sym h))
 
-told_entry : (d : Day) (k : ℕ) (lawful : ℕ → ℤ → Bool) (xs : List Call) (e : Entry) (s : State) (m : Ledger) → is_ok (entry_answer lawful m e s) ≡ true → BookTold d k xs m → BookTold d k (xs ++ (Enter e ∷ [])) (entry_after lawful e s m)
+told_entry : (d : Day) (k : ℕ) (lawful : ℕ → ℤ → Bool) (xs : List Call) (e : Entry) (s : State) (m : Ledger)
+    → is_ok (entry_answer lawful m e s) ≡ true → BookTold d k xs m
+    → BookTold d k (xs ++ (Enter e ∷ [])) (entry_after lawful e s m)
 told_entry d k lawful xs e s m ok t =
     let taken = admitted m e (sym (found (answer m e) (book_ok (entry_passed lawful m.day e s) (answer m e) ok)).1) in
     let day : m.day ≡ d = ap (λ (l : Ledger). l.day) t.records in
@@ -284,7 +302,8 @@ told_entry d k lawful xs e s m ok t =
 
 -- ---- any call taken
 
-pub told_call : (d : Day) (k ladders : ℕ) (lawful : ℕ → ℤ → Bool) (xs : List Call) (c : Call) (w : World) → is_taken ladders lawful c w ≡ true → Told d k xs w → Told d k (xs ++ (c ∷ [])) (next ladders lawful c w)
+pub told_call : (d : Day) (k ladders : ℕ) (lawful : ℕ → ℤ → Bool) (xs : List Call) (c : Call) (w : World)
+    → is_taken ladders lawful c w ≡ true → Told d k xs w → Told d k (xs ++ (c ∷ [])) (next ladders lawful c w)
 told_call d k ladders lawful xs (ListCall l) w ok t = record {
   phase = phase_stays xs (ListCall l) (listed_terms ladders l w.state) _ w.state (λ p. refl) (λ a. refl) t.phase;
   roll = told_listing ladders xs l w.state (sym (listed_ok w.state.roll.count (listed_terms ladders l w.state)) ∙ ok) t.roll;

@@ -29,11 +29,14 @@ use Rattle.house.specs.Found.{Station, above_theory, average, finds, found, less
 use Rattle.house.specs.declared.answers.Settlement.{Settlement}
 use Rattle.house.specs.declared.series.Ruling as rulings
 use Rattle.house.specs.declared.series.Series.{Series}
-use Rattle.runs.specs.Raised.{Matched, RulingRaised, SeriesRaised, ValueRaised}
+use Rattle.runs.specs.Raised.{Matched, Relation, RulingBy, SeriesRaised}
 use Rattle.runs.specs.Laws.{NotLower}
 use Rattle.runs.proofs.Along.{LawfulPair, StationLawful, along, lawful_pairs}
 use Rattle.runs.proofs.Inside.{average_inside, middle_inside, whole_inside}
-use Rattle.runs.proofs.RaisedFigures.{SidesRaised, ValuesRaised}
+use Rattle.runs.proofs.RaisedFigures.{SidesRaised, ValueRaised, ValuesRaised}
+
+abbrev RulingRaised : Relation rulings.Ruling
+RulingRaised = RulingBy ◌≤ℤ◌
 
 -- the same number, a raised series, and raised figures in each window
 pub record StationRaised (x y : Station) : Type 0 where
@@ -66,7 +69,8 @@ module _ (P : ℤ → Bool) (near : (z : ℤ) → Near P z) where
   nearest_raised : (n m : ℤ) (d : ℕ) → inside n d ≡ inside m d → n ≤ℤ m → ValueRaised (nearest_price P n d) (nearest_price P m d)
   nearest_raised n m d same rise = by (inside n d) (inside m d) refl same
     where
-      by : (b c : Bool) → inside n d ≡ b → b ≡ c → ValueRaised (cond b (Some (nearest_of P n d)) None) (cond c (Some (nearest_of P m d)) None)
+      by : (b c : Bool) → inside n d ≡ b → b ≡ c
+          → ValueRaised (cond b (Some (nearest_of P n d)) None) (cond c (Some (nearest_of P m d)) None)
       by true true e s =
           let some = (inside_range n d e).0 in
           nearest_rises P P (λ z. refl) n m d d (nearest_of P n d) (nearest_of P m d) some some (nearest_of_is n d some) (nearest_of_is m d some) (times_rises n m d rise)
@@ -74,7 +78,8 @@ module _ (P : ℤ → Bool) (near : (z : ℤ) → Near P z) where
       by false true e s = absurd (false≢true s)
       by false false e s = tt
 
-  middle_raised : (b a c z : Option ℤ) → side_lawful b ≡ true → side_lawful a ≡ true → side_lawful c ≡ true → side_lawful z ≡ true → ValueRaised b c → ValueRaised a z → ValueRaised (middle P b a) (middle P c z)
+  middle_raised : (b a c z : Option ℤ) → side_lawful b ≡ true → side_lawful a ≡ true → side_lawful c ≡ true → side_lawful z ≡ true
+      → ValueRaised b c → ValueRaised a z → ValueRaised (middle P b a) (middle P c z)
   middle_raised None a None z lb la lc lz bid ask = tt
   middle_raised None a (Some c) z lb la lc lz bid ask = absurd bid
   middle_raised (Some b) a None z lb la lc lz bid ask = absurd bid
@@ -84,7 +89,8 @@ module _ (P : ℤ → Bool) (near : (z : ℤ) → Near P z) where
   middle_raised (Some b) (Some a) (Some c) (Some z) lb la lc lz bid ask =
       nearest_raised (b +ℤ a) (c +ℤ z) 2 (middle_inside b a lb la ∙ sym (middle_inside c z lc lz)) (omega (arith, ints))
 
-  quoted_raised : (q r : Option Sides) → sides_if q ≡ true → sides_if r ≡ true → Matched SidesRaised q r → ValueRaised (quoted P q) (quoted P r)
+  quoted_raised : (q r : Option Sides) → sides_if q ≡ true → sides_if r ≡ true → Matched SidesRaised q r
+      → ValueRaised (quoted P q) (quoted P r)
   quoted_raised None None l m rise = tt
   quoted_raised None (Some r) l m rise = absurd rise
   quoted_raised (Some q) None l m rise = absurd rise
@@ -93,7 +99,8 @@ module _ (P : ℤ → Bool) (near : (z : ℤ) → Near P z) where
       let right = and_parts (side_lawful r.bid) (side_lawful r.ask) m in
       middle_raised q.bid q.ask r.bid r.ask left.0 left.1 right.0 right.1 rise.bid rise.ask
 
-  average_raised : (k l : ℕ) (v w : Values) → bounded k v ≡ true → bounded l w ≡ true → ValuesRaised v w → ValueRaised (average P v.money v.lots) (average P w.money w.lots)
+  average_raised : (k l : ℕ) (v w : Values) → bounded k v ≡ true → bounded l w ≡ true → ValuesRaised v w
+      → ValueRaised (average P v.money v.lots) (average P w.money w.lots)
   average_raised k l v w h m rise =
       subst (λ (n : ℤ). ValueRaised (average P v.money v.lots) (average P w.money n)) rise.lots
       (nearest_raised v.money w.money (nat_abs v.lots) (average_inside k v h ∙ sym alike) rise.money)
@@ -101,25 +108,30 @@ module _ (P : ℤ → Bool) (near : (z : ℤ) → Near P z) where
       alike : inside w.money (nat_abs v.lots) ≡ ltb 0 (nat_abs v.lots)
       alike = subst (λ (n : ℤ). inside w.money (nat_abs n) ≡ ltb 0 (nat_abs n)) (sym rise.lots) (average_inside l w m)
 
-  nearest_theory_raised : (v w : Option ℤ) → side_lawful v ≡ true → side_lawful w ≡ true → ValueRaised v w → ValueRaised (nearest_theory P v) (nearest_theory P w)
+  nearest_theory_raised : (v w : Option ℤ) → side_lawful v ≡ true → side_lawful w ≡ true → ValueRaised v w
+      → ValueRaised (nearest_theory P v) (nearest_theory P w)
   nearest_theory_raised None None l m rise = tt
   nearest_theory_raised None (Some w) l m rise = absurd rise
   nearest_theory_raised (Some v) None l m rise = absurd rise
   nearest_theory_raised (Some v) (Some w) l m rise = nearest_raised v w 1 (whole_inside v l ∙ sym (whole_inside w m)) rise
 
-  above_theory_raised : (v w : Option ℤ) → side_lawful v ≡ true → side_lawful w ≡ true → ValueRaised v w → ValueRaised (above_theory P v) (above_theory P w)
+  above_theory_raised : (v w : Option ℤ) → side_lawful v ≡ true → side_lawful w ≡ true → ValueRaised v w
+      → ValueRaised (above_theory P v) (above_theory P w)
   above_theory_raised None None l m rise = tt
   above_theory_raised None (Some w) l m rise = absurd rise
   above_theory_raised (Some v) None l m rise = absurd rise
   above_theory_raised (Some v) (Some w) l m rise = by (within v) (within w) l m
     where
-      by : (b c : Bool) → b ≡ true → c ≡ true → ValueRaised (cond b (Some (above_of P v)) None) (cond c (Some (above_of P w)) None)
+      by : (b c : Bool) → b ≡ true → c ≡ true
+          → ValueRaised (cond b (Some (above_of P v)) None) (cond c (Some (above_of P w)) None)
       by true true p q = above_rises P P (λ z. refl) v w (above_of P v) (above_of P w) (above_of_is P near v) (above_of_is P near w) rise
       by true false p q = absurd (false≢true q)
       by false c p q = absurd (false≢true p)
 
   -- each step finds in both or in neither, and finds no lower
-  finds_raised : (r q : Option ℤ) (s t : Series) (v w : Values) (k l : ℕ) → side_lawful s.theory ≡ true → side_lawful t.theory ≡ true → bounded k v ≡ true → bounded l w ≡ true → ValueRaised r q → SeriesRaised s t → ValuesRaised v w → (step : Step) → ValueRaised (finds P r s v step) (finds P q t w step)
+  finds_raised : (r q : Option ℤ) (s t : Series) (v w : Values) (k l : ℕ) → side_lawful s.theory ≡ true
+      → side_lawful t.theory ≡ true → bounded k v ≡ true → bounded l w ≡ true → ValueRaised r q → SeriesRaised s t
+      → ValuesRaised v w → (step : Step) → ValueRaised (finds P r s v step) (finds P q t w step)
   finds_raised r q s t v w k l ls lt lv lw reference series values Auction = values.auction
   finds_raised r q s t v w k l ls lt lv lw reference series values Trade = values.trade
   finds_raised r q s t v w k l ls lt lv lw reference series values Quote = quoted_raised v.quote w.quote (parts k v lv).quote (parts l w lw).quote values.quote
@@ -136,26 +148,30 @@ module _ (P : ℤ → Bool) (near : (z : ℤ) → Near P z) where
 
 -- ---- one row
 
-abbrev SettlementRaised : Settlement → Settlement → Type 0
+abbrev SettlementRaised : Relation Settlement
 SettlementRaised s t = (s.step ≡ t.step) × (s.place ≡ t.place) × (s.price ≤ℤ t.price)
 
-first_raised : (f g : Place → Option ℤ) → ((p : Place) → ValueRaised (f p) (g p)) → (k : ℕ) (ps : List Place) → Matched SettlementRaised (first_found f k ps) (first_found g k ps)
+first_raised : (f g : Place → Option ℤ) → ((p : Place) → ValueRaised (f p) (g p)) → (k : ℕ) (ps : List Place)
+    → Matched SettlementRaised (first_found f k ps) (first_found g k ps)
 first_raised f g rise k [] = tt
 first_raised f g rise k (p ∷ ps) = by (f p) (g p) (first_raised f g rise (k + 1) ps) (rise p)
   where
-    by : (v w : Option ℤ) → Matched SettlementRaised (first_found f (k + 1) ps) (first_found g (k + 1) ps) → ValueRaised v w → Matched SettlementRaised (or_later v p.step k (first_found f (k + 1) ps)) (or_later w p.step k (first_found g (k + 1) ps))
+    by : (v w : Option ℤ) → Matched SettlementRaised (first_found f (k + 1) ps) (first_found g (k + 1) ps) → ValueRaised v w
+        → Matched SettlementRaised (or_later v p.step k (first_found f (k + 1) ps)) (or_later w p.step k (first_found g (k + 1) ps))
     by None None later h = later
     by None (Some w) later h = absurd h
     by (Some v) None later h = absurd h
     by (Some v) (Some w) later h = (refl, refl, h)
 
-or_refused_raised : (s t : Option Settlement) (o p : ℕ) → Matched SettlementRaised s t → o ≡ p → NotLower (or_refused s o) (or_refused t p)
+or_refused_raised : (s t : Option Settlement) (o p : ℕ) → Matched SettlementRaised s t → o ≡ p
+    → NotLower (or_refused s o) (or_refused t p)
 or_refused_raised None None o p h same = same
 or_refused_raised None (Some t) o p h same = absurd h
 or_refused_raised (Some s) None o p h same = absurd h
 or_refused_raised (Some s) (Some t) o p h same = h
 
-ruled_first_raised : (r q : Option rulings.Ruling) (a b : Answer) → Matched RulingRaised r q → NotLower a b → NotLower (ruled_first r a) (ruled_first q b)
+ruled_first_raised : (r q : Option rulings.Ruling) (a b : Answer) → Matched RulingRaised r q → NotLower a b
+    → NotLower (ruled_first r a) (ruled_first q b)
 ruled_first_raised None None a b rise h = h
 ruled_first_raised None (Some q) a b rise h = absurd rise
 ruled_first_raised (Some r) None a b rise h = absurd rise
@@ -193,7 +209,8 @@ module _ (P : ℕ → ℤ → Bool) (near : (n : ℕ) (z : ℤ) → Near (P n) z
   same_row : (s t : Series) → SeriesRaised s t → row_of s ed ≡ row_of t ed
   same_row s t rise = λ i. row (rise.family i) (chosen (rise.family i) (rise.marks i) ed)
 
-  found_raised : (x y : Station) (r q : Option ℤ) → LawfulPair StationRaised x y → ValueRaised r q → (p : Place) → ValueRaised (found P r x p) (found P q y p)
+  found_raised : (x y : Station) (r q : Option ℤ) → LawfulPair StationRaised x y → ValueRaised r q → (p : Place)
+      → ValueRaised (found P r x p) (found P q y p)
   found_raised x y r q (lx, ly, rise) reference p =
       let w = window_number p.window in
       subst (λ (n : ℕ). ValueRaised (found P r x p) (finds (P n) q y.series (y.figures w) p.step)) rise.series.ladder
@@ -206,7 +223,8 @@ module _ (P : ℕ → ℤ → Bool) (near : (n : ℕ) (z : ℤ) → Near (P n) z
       (λ i. cond (some_refers (same_row x.series y.series rise.series i)) (origin_of_raised x.number u v h i) x.number)
       ∙ (λ i. cond (some_refers (row_of y.series ed)) (origin_of (rise.number i) v) (rise.number i))
 
-  answered_raised : (x y : Station) (u v : Option Answer) → LawfulPair StationRaised x y → Matched NotLower u v → NotLower (answered P ed x u) (answered P ed y v)
+  answered_raised : (x y : Station) (u v : Option Answer) → LawfulPair StationRaised x y → Matched NotLower u v
+      → NotLower (answered P ed x u) (answered P ed y v)
   answered_raised x y u v pair h =
       let rise = pair.2 in
       ruled_first_raised x.series.ruling y.series.ruling (by_row P ed x u) (by_row P ed y v) rise.series.ruling
@@ -216,5 +234,7 @@ module _ (P : ℕ → ℤ → Bool) (near : (n : ℕ) (z : ℤ) → Near (P n) z
       (origin_raised x y u v rise h))
 
   -- raised stations settle together, at the same step and place and at no lower price, or are refused from the same series
-  pub raised_answers : (x y : Station) (xs ys : List Station) → AllByRecursion StationLawful (x ∷ xs) → AllByRecursion StationLawful (y ∷ ys) → AllZip StationRaised (x ∷ xs) (y ∷ ys) → NotLower (path_answer P ed x xs) (path_answer P ed y ys)
+  pub raised_answers : (x y : Station) (xs ys : List Station) → AllByRecursion StationLawful (x ∷ xs)
+      → AllByRecursion StationLawful (y ∷ ys) → AllZip StationRaised (x ∷ xs) (y ∷ ys)
+      → NotLower (path_answer P ed x xs) (path_answer P ed y ys)
   raised_answers x y xs ys l m rise = along P ed (LawfulPair StationRaised) NotLower answered_raised x y xs ys (lawful_pairs StationRaised (x ∷ xs) (y ∷ ys) l m rise)

@@ -18,11 +18,18 @@ use Rattle.book.specs.declared.figures.Last.{Last}
 use Rattle.book.specs.declared.figures.Sides.{Sides}
 use Rattle.book.specs.declared.figures.Values.{Values}
 use Rattle.book.proofs.Ranges.{allowed_kind}
-use Rattle.runs.specs.Kept.{kept, on_path}
-use Rattle.runs.specs.Raised.{EntryRaised, KindRaised, Matched, ValueRaised}
-use Rattle.runs.proofs.KeptFigures.{every_kept, related_figures}
+use Rattle.runs.specs.PathEntries.{entries_on, on_path}
+use Rattle.runs.specs.Raised.{EntryRaised, KindBy, Matched, Relation}
+use Rattle.runs.proofs.PathFigures.{every_on_path, related_figures}
 
 -- ---- figures raised
+
+-- both missing, or the second no lower
+abbrev pub ValueRaised : Relation (Option ℤ)
+ValueRaised = Matched ◌≤ℤ◌
+
+abbrev KindRaised : Relation Kind
+KindRaised = KindBy ◌≤ℤ◌
 
 pub record SidesRaised (q r : Sides) : Type 0 where
   pub bid : ValueRaised q.bid r.bid
@@ -37,7 +44,7 @@ pub record ValuesRaised (v w : Values) : Type 0 where
   pub money : v.money ≤ℤ w.money
 
 -- last figures of the same stamp, or none
-abbrev LastMatched : {V : Type 0} → (V → V → Type 0) → Option (Last V) → Option (Last V) → Type 0
+abbrev LastMatched : {V : Type 0} → Relation V → Relation (Option (Last V))
 LastMatched R o p = Matched (λ l m. (l.stamp ≡ m.stamp) × R l.value m.value) o p
 
 record FiguresRaised (f g : Figures) : Type 0 where
@@ -48,7 +55,8 @@ record FiguresRaised (f g : Figures) : Type 0 where
   lots : f.lots ≡ g.lots
   money : f.money ≤ℤ g.money
 
-unstamped_matched : {V : Type 0} (R : V → V → Type 0) (o p : Option (Last V)) → LastMatched R o p → Matched R (unstamped o) (unstamped p)
+unstamped_matched : {V : Type 0} (R : Relation V) (o p : Option (Last V)) → LastMatched R o p
+    → Matched R (unstamped o) (unstamped p)
 unstamped_matched R None None h = tt
 unstamped_matched R None (Some p) h = h
 unstamped_matched R (Some o) None h = h
@@ -66,7 +74,8 @@ raised_values f g r = record {
 
 -- ---- one more entry
 
-latest_matched : {V : Type 0} (R : V → V → Type 0) (o p : Option (Last V)) (t : ℤ) (v w : V) → R v w → LastMatched R o p → LastMatched R (latest o t v) (latest p t w)
+latest_matched : {V : Type 0} (R : Relation V) (o p : Option (Last V)) (t : ℤ) (v w : V) → R v w → LastMatched R o p
+    → LastMatched R (latest o t v) (latest p t w)
 latest_matched R None None t v w rise h = (refl, rise)
 latest_matched R None (Some p) t v w rise h = absurd h
 latest_matched R (Some o) None t v w rise h = absurd h
@@ -85,7 +94,8 @@ worth_raised p q (pos n) l h =
     omega (arith, ints)
 worth_raised p q (negsuc n) l h = absurd (true≢false (sym l))
 
-raised_traded : (t p q n : ℤ) (f g : Figures) → (price_lawful p && lots_lawful n) ≡ true → p ≤ℤ q → FiguresRaised f g → FiguresRaised (traded t p n f) (traded t q n g)
+raised_traded : (t p q n : ℤ) (f g : Figures) → (price_lawful p && lots_lawful n) ≡ true → p ≤ℤ q → FiguresRaised f g
+    → FiguresRaised (traded t p n f) (traded t q n g)
 raised_traded t p q n f g h rise r =
     let worth = worth_raised p q n (and_parts (price_lawful p) (lots_lawful n) h).1 rise in
     let money = r.money in
@@ -98,7 +108,8 @@ raised_traded t p q n f g h rise r =
       money = omega (arith, ints);
     }
 
-raised_auction : (t p q : ℤ) (f g : Figures) → p ≤ℤ q → FiguresRaised f g → FiguresRaised (with_auction t p f) (with_auction t q g)
+raised_auction : (t p q : ℤ) (f g : Figures) → p ≤ℤ q → FiguresRaised f g
+    → FiguresRaised (with_auction t p f) (with_auction t q g)
 raised_auction t p q f g rise r = record {
   trade = r.trade;
   auction = latest_matched ◌≤ℤ◌ f.auction g.auction t p q rise r.auction;
@@ -108,7 +119,8 @@ raised_auction t p q f g rise r = record {
   money = r.money;
 }
 
-raised_with_entry : (k l : Kind) (t : ℤ) (f g : Figures) → kind_lawful k ≡ true → KindRaised k l → FiguresRaised f g → FiguresRaised (with_entry k t f) (with_entry l t g)
+raised_with_entry : (k l : Kind) (t : ℤ) (f g : Figures) → kind_lawful k ≡ true → KindRaised k l → FiguresRaised f g
+    → FiguresRaised (with_entry k t f) (with_entry l t g)
 raised_with_entry (Trade p n) l t f g h (q, rise, is) r = subst (λ (j : Kind). FiguresRaised (traded t p n f) (with_entry j t g)) (sym is) (raised_traded t p q n f g h rise r)
 raised_with_entry (Auction p n) l t f g h (q, rise, is) r =
     subst (λ (j : Kind). FiguresRaised (with_entry (Auction p n) t f) (with_entry j t g)) (sym is)
@@ -128,7 +140,8 @@ raised_with_entry (Quote b a) l t f g h (c, z, bid, ask, is) r =
       money = r.money;
     })
 
-raised_entered : (s : ℕ) (x : ℤ × ℤ) (f g : Figures) (e e' : Entry) → kind_lawful e.kind ≡ true → EntryRaised e e' → FiguresRaised f g → FiguresRaised (entered_in s x f e) (entered_in s x g e')
+raised_entered : (s : ℕ) (x : ℤ × ℤ) (f g : Figures) (e e' : Entry) → kind_lawful e.kind ≡ true → EntryRaised e e'
+    → FiguresRaised f g → FiguresRaised (entered_in s x f e) (entered_in s x g e')
 raised_entered s x f g e e' h rise r =
     subst (λ (k : Figures). FiguresRaised (entered_in s x f e) k)
     (λ i. cond (is_series s (rise.series i) && holds x (rise.stamp i)) (with_entry e'.kind (rise.stamp i) g) g)
@@ -140,7 +153,8 @@ raised_entered s x f g e e' h rise r =
 
 -- ---- all entries
 
-raised_fold : (d : Day) (s : ℕ) (x : ℤ × ℤ) (f g : Figures) (es fs : List Entry) → every (allowed d) es ≡ true → AllZip EntryRaised es fs → FiguresRaised f g → FiguresRaised (fold (entered_in s x) f es) (fold (entered_in s x) g fs)
+raised_fold : (d : Day) (s : ℕ) (x : ℤ × ℤ) (f g : Figures) (es fs : List Entry) → every (allowed d) es ≡ true
+    → AllZip EntryRaised es fs → FiguresRaised f g → FiguresRaised (fold (entered_in s x) f es) (fold (entered_in s x) g fs)
 raised_fold d s x f g [] [] h rise r = r
 raised_fold d s x f g [] (e' ∷ fs) h rise r = absurd rise
 raised_fold d s x f g (e ∷ es) [] h rise r = absurd rise
@@ -153,8 +167,10 @@ raised_empty : FiguresRaised empty empty
 raised_empty = record { trade = tt; auction = tt; spread = refl; quote = tt; lots = refl; money = omega (arith, ints) }
 
 -- entries raised on a path raise the figures of its series
-pub raised_figures : (d : Day) (path : List ℕ) (es fs : List Entry) (s w : ℕ) → every (allowed d) es ≡ true → AllZip EntryRaised (kept path es) (kept path fs) → on_path path (pos s) ≡ true → ValuesRaised (values (figures_of d es s w)) (values (figures_of d fs s w))
+pub raised_figures : (d : Day) (path : List ℕ) (es fs : List Entry) (s w : ℕ) → every (allowed d) es ≡ true
+    → AllZip EntryRaised (entries_on path es) (entries_on path fs) → on_path path (pos s) ≡ true
+    → ValuesRaised (values (figures_of d es s w)) (values (figures_of d fs s w))
 raised_figures d path es fs s w h rise on =
     raised_values (figures_of d es s w) (figures_of d fs s w)
     (related_figures d path es fs s w FiguresRaised on
-    (raised_fold d s (edges d w) empty empty (kept path es) (kept path fs) (every_kept (allowed d) path es h) rise raised_empty))
+    (raised_fold d s (edges d w) empty empty (entries_on path es) (entries_on path fs) (every_on_path (allowed d) path es h) rise raised_empty))

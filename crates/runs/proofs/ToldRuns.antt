@@ -1,12 +1,8 @@
--- What stands after a run, told by the calls calls_taken.
-use Rattle.std.proofs.Common.{◌≡◌, ℕ, Bool, true, List, [], ◌∷◌, ◌++◌, ℤ, sym, ap, ◌∙◌, subst, ⊎_elim}
+-- What stands after a run, told by the calls taken.
+use Rattle.std.proofs.Common.{◌≡◌, ℕ, Bool, List, [], ◌∷◌, ◌++◌, ℤ, sym, ap, ◌∙◌, subst, ⊎_elim}
 use Rattle.std.proofs.lemmas.List.{append_assoc, append-nil}
 use Rattle.std.proofs.lemmas.Bool.{cases_Bool, cond-false, cond-true}
-use Rattle.book.specs.Entries.{allowed}
-use Rattle.book.specs.Records.{every, recorded}
 use Rattle.book.specs.declared.days.Day.{Day}
-use Rattle.house.specs.Series.{lawful_series}
-use Rattle.runs.specs.Readings.{entries, stands}
 use Rattle.calls.specs.Worlds.{World, is_taken, new_world, next}
 use Rattle.runs.specs.Runs.{after_run, calls_taken}
 use Rattle.calls.specs.declared.call.Call.{Call}
@@ -15,12 +11,15 @@ use Rattle.runs.proofs.OneCall.{told_call, told_new}
 use Rattle.calls.proofs.Refusals.{refused_stays}
 
 -- calls that follow others
-told_more : (d : Day) (k ladders : ℕ) (lawful : ℕ → ℤ → Bool) (xs calls : List Call) (w : World) → Told d k xs w → Told d k (xs ++ calls_taken ladders lawful calls w) (after_run ladders lawful calls w)
+told_more : (d : Day) (k ladders : ℕ) (lawful : ℕ → ℤ → Bool) (xs calls : List Call) (w : World) → Told d k xs w
+    → Told d k (xs ++ calls_taken ladders lawful calls w) (after_run ladders lawful calls w)
 told_more d k ladders lawful xs [] w t = subst (λ ys. Told d k ys w) (sym (append-nil xs)) t
 told_more d k ladders lawful xs (c ∷ calls) w t =
     ⊎_elim
-    (λ h. subst goal (append_assoc xs (c ∷ []) rest ∙ ap (λ ys. xs ++ ys) (sym (cond-true (is_taken ladders lawful c w) (c ∷ rest) rest h))) (told_more d k ladders lawful (xs ++ (c ∷ [])) calls then (told_call d k ladders lawful xs c w h t)))
-    (λ h. subst goal (ap (λ ys. xs ++ ys) (sym (cond-false (is_taken ladders lawful c w) (c ∷ rest) rest h))) (told_more d k ladders lawful xs calls then (subst (Told d k xs) (sym (refused_stays ladders lawful c w h)) t)))
+    (λ h. subst goal (append_assoc xs (c ∷ []) rest ∙ ap (λ ys. xs ++ ys) (sym (cond-true (is_taken ladders lawful c w) (c ∷ rest) rest h)))
+    (told_more d k ladders lawful (xs ++ (c ∷ [])) calls then (told_call d k ladders lawful xs c w h t)))
+    (λ h. subst goal (ap (λ ys. xs ++ ys) (sym (cond-false (is_taken ladders lawful c w) (c ∷ rest) rest h)))
+    (told_more d k ladders lawful xs calls then (subst (Told d k xs) (sym (refused_stays ladders lawful c w h)) t)))
     (cases_Bool (is_taken ladders lawful c w))
   where
     then : World
@@ -32,24 +31,14 @@ told_more d k ladders lawful xs (c ∷ calls) w t =
     goal : List Call → Type 0
     goal ys = Told d k ys (after_run ladders lawful calls then)
 
--- all that the calls calls_taken tell of a run from a new house and a new book
-pub told_run : (d : Day) (k ladders : ℕ) (lawful : ℕ → ℤ → Bool) (calls : List Call) → Told d k (calls_taken ladders lawful calls (new_world d k)) (after_run ladders lawful calls (new_world d k))
+-- a run from a new house and a new book
+told_run : (d : Day) (k ladders : ℕ) (lawful : ℕ → ℤ → Bool) (calls : List Call)
+    → Told d k (calls_taken ladders lawful calls (new_world d k)) (after_run ladders lawful calls (new_world d k))
 told_run d k ladders lawful calls = told_more d k ladders lawful [] calls (new_world d k) (told_new d k)
 
-pub told_series : (d : Day) (k ladders : ℕ) (lawful : ℕ → ℤ → Bool) (calls : List Call) (n : ℕ) → (after_run ladders lawful calls (new_world d k)).state.roll.series n ≡ stands (calls_taken ladders lawful calls (new_world d k)) n
-told_series d k ladders lawful calls = (told_run d k ladders lawful calls).roll.series
-
-pub told_lawful : (d : Day) (k ladders : ℕ) (lawful : ℕ → ℤ → Bool) (calls : List Call) (n : ℕ) → lawful_series n ((after_run ladders lawful calls (new_world d k)).state.roll.series n) ≡ true
-told_lawful d k ladders lawful calls = (told_run d k ladders lawful calls).roll.lawful
-
-pub told_book : (d : Day) (k ladders : ℕ) (lawful : ℕ → ℤ → Bool) (calls : List Call) → (after_run ladders lawful calls (new_world d k)).book ≡ recorded d k (entries (calls_taken ladders lawful calls (new_world d k)))
-told_book d k ladders lawful calls = (told_run d k ladders lawful calls).book.records
-
-pub told_allowed : (d : Day) (k ladders : ℕ) (lawful : ℕ → ℤ → Bool) (calls : List Call) → every (allowed d) (entries (calls_taken ladders lawful calls (new_world d k))) ≡ true
-told_allowed d k ladders lawful calls = (told_run d k ladders lawful calls).book.lawful
-
--- and of a run whose beginning was new
-pub told_from_new : (d : Day) (k ladders : ℕ) (lawful : ℕ → ℤ → Bool) (calls : List Call) (w v : World) → v ≡ after_run ladders lawful calls w → w ≡ new_world d k → Told d k (calls_taken ladders lawful calls w) v
+-- and one whose beginning was new
+pub told_from_new : (d : Day) (k ladders : ℕ) (lawful : ℕ → ℤ → Bool) (calls : List Call) (w v : World)
+    → v ≡ after_run ladders lawful calls w → w ≡ new_world d k → Told d k (calls_taken ladders lawful calls w) v
 told_from_new d k ladders lawful calls w v is new =
     subst (Told d k (calls_taken ladders lawful calls w)) (sym is)
     (subst (λ (u : World). Told d k (calls_taken ladders lawful calls u) (after_run ladders lawful calls u)) (sym new) (told_run d k ladders lawful calls))

@@ -6,15 +6,15 @@ use Rattle.book.specs.declared.entries.Kind.{Kind}
 use Rattle.book.specs.declared.entries.Kind.TheVariants.{Trade, Auction, Leg, Spread, Quote}
 
 -- whether an entry is a trade, an auction or a spread
-abbrev pub extra : Kind → Bool
-extra (Trade p n) = true
-extra (Auction p n) = true
-extra (Leg p n) = false
-extra (Spread v) = true
-extra (Quote b a) = false
+abbrev pub is_addition : Kind → Bool
+is_addition (Trade p n) = true
+is_addition (Auction p n) = true
+is_addition (Leg p n) = false
+is_addition (Spread v) = true
+is_addition (Quote b a) = false
 
 -- the first entries stand among the second in their order, and the rest there are trades, auctions or spreads
 abbrev pub Among : List Entry → List Entry → Type 0
-Among [] fs = AllByRecursion (λ f. extra f.kind ≡ true) fs
+Among [] fs = AllByRecursion (λ f. is_addition f.kind ≡ true) fs
 Among (e ∷ es) [] = ⊥
-Among (e ∷ es) (f ∷ fs) = ((e ≡ f) × Among es fs) ⊎ ((extra f.kind ≡ true) × Among (e ∷ es) fs)
+Among (e ∷ es) (f ∷ fs) = ((e ≡ f) × Among es fs) ⊎ ((is_addition f.kind ≡ true) × Among (e ∷ es) fs)

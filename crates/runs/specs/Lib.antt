@@ -1,4 +1,4 @@
-pub mod Kept
+pub mod PathEntries
 pub mod Raised
 pub mod Added
 pub mod Runs

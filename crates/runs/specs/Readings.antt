@@ -55,8 +55,8 @@ terms_in (SetRuling m value first) = []
 terms_in (Settle m edition) = []
 
 -- the terms of the listings, in their order
-abbrev pub listed : List Call → List Terms
-listed calls = flat_map terms_in calls
+abbrev pub terms_listed : List Call → List Terms
+terms_listed calls = flat_map terms_in calls
 
 -- ---- the values supplied
 
@@ -89,8 +89,12 @@ last_ruling n calls = fold (ruling_left n) None calls
 -- ---- the series and the book
 
 -- the series numbered n after the calls: the terms of its listing, and what was last supplied
-abbrev pub stands : List Call → ℕ → Series
-stands calls n = record { terms = slice_index_or (listed calls) n blank.terms; theory = last_theory n calls; ruling = last_ruling n calls }
+abbrev pub series_after : List Call → ℕ → Series
+series_after calls n = record {
+  terms = slice_index_or (terms_listed calls) n blank.terms;
+  theory = last_theory n calls;
+  ruling = last_ruling n calls;
+}
 
 abbrev pub entries_in : Call → List Entry
 entries_in (ListCall t) = []

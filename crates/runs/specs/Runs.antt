@@ -10,4 +10,5 @@ after_run ladders lawful calls w = fold (λ v c. next ladders lawful c v) w call
 abbrev pub calls_taken : ℕ → (ℕ → ℤ → Bool) → List Call → World → List Call
 calls_taken ladders lawful [] w = []
 calls_taken ladders lawful (c ∷ calls) w =
-    cond (is_taken ladders lawful c w) (c ∷ calls_taken ladders lawful calls (next ladders lawful c w)) (calls_taken ladders lawful calls (next ladders lawful c w))
+    let more = calls_taken ladders lawful calls (next ladders lawful c w) in
+    cond (is_taken ladders lawful c w) (c ∷ more) more

@@ -6,14 +6,14 @@ use Rattle.book.specs.Records.{every, recorded}
 use Rattle.book.specs.declared.days.Day.{Day}
 use Rattle.house.specs.Rolls.{Roll}
 use Rattle.house.specs.Series.{blank, lawful_series}
-use Rattle.runs.specs.Readings.{entries, listed, phase_after, stands}
+use Rattle.runs.specs.Readings.{entries, terms_listed, phase_after, series_after}
 use Rattle.calls.specs.Worlds.{World}
 use Rattle.calls.specs.declared.call.Call.{Call}
 
 -- the listed series: as many as there are listings, each with the terms of its listing and what was last supplied
 pub record RollTold (xs : List Call) (r : Roll) : Type 0 where
-  pub series : (n : ℕ) → r.series n ≡ stands xs n
-  pub count : r.count ≡ length (listed xs)
+  pub series : (n : ℕ) → r.series n ≡ series_after xs n
+  pub count : r.count ≡ length (terms_listed xs)
   pub lawful : (n : ℕ) → lawful_series n (r.series n) ≡ true
   pub unused : (n : ℕ) → r.count ≤ n → r.series n ≡ blank
 

@@ -1,14 +1,15 @@
 // Two runs, whatever the makes of the ladder sets and of the books, and the same question asked after each.
 ghost use Rattle.std.specs.Prelude.{◌≡◌, min, length};
+ghost use Rattle.house.specs.Houses.{set_of};
 ghost use Rattle.runs.specs.Laws.{Alike, Comparable, Laws, answer_in, end, new_run, run_in};
 ghost use Rattle.calls.specs.Worlds.{world};
 
-use crate::calls::Call;
-use crate::performing::run;
+use crate::running::run;
 use board::boards::Board;
 use book::books::Book;
 use book::entries::Entry;
 use book::lawful::LawfulDay;
+use calls::call::Call;
 use house::answers::Settlement;
 use house::faults::HouseFault;
 use house::houses::House;
@@ -16,20 +17,24 @@ use ladders::sets::LadderSet;
 use rows::places::Edition;
 use tape::tapes::Tape;
 
-// A run: a house, a book, and the calls to be made on them. Of a run handed over, a clause has the house as `exit.0` and the book
-// as `exit.1.0`, where it tells what they hold at the return.
+/// A run: a house, a book, and the calls to be made on them. Of a run handed over, a clause has the house as `exit.0` and the
+/// book as `exit.1.0`, where it tells what they hold at the return.
 pub struct Run<'a, L: LadderSet, B> {
+    /// The house on which the calls are made.
     pub house: &'a mut House<L>,
+    /// The book that is lent to the house with each call.
     pub book: &'a mut B,
+    /// The calls, in the order in which they are made.
     pub calls: &'a [Call],
 }
 
 impl<L: LadderSet, B: Book> Run<'_, L, B> {
     // Makes the calls, and then asks.
     fn make_and_ask(self, series: i64, edition: Edition) -> Result<Settlement, HouseFault>
-        ensures answer { result ≡ answer_in (run_in L.LadderSet.size L.LadderSet.lawful B.Book.meaning self.entry) series edition }
-        ensures after { world self.exit.0.now (B.Book.meaning self.exit.1.0.now) ≡ end (run_in L.LadderSet.size L.LadderSet.lawful B.Book.meaning self.entry) }
-        ensures set { self.exit.0.now.set ≡ self.entry.house.now.set }
+        ensures answer { result ≡ answer_in (run_in L.size L.lawful B.meaning self.entry) series edition }
+        ensures after { world self.exit.0.now (B.meaning self.exit.1.0.now)
+            ≡ end (run_in L.size L.lawful B.meaning self.entry) }
+        ensures set { set_of self.exit.0.now ≡ set_of self.entry.house.now }
     {
         let Run { house, book, calls } = self;
         run(house, book, calls);
@@ -37,7 +42,7 @@ impl<L: LadderSet, B: Book> Run<'_, L, B> {
     }
 }
 
-// What the houses of two runs answer.
+/// What the houses of two runs answer, the first run's first.
 pub type Answers = (
     Result<Settlement, HouseFault>,
     Result<Settlement, HouseFault>,
@@ -51,43 +56,52 @@ fn ask_both<K: LadderSet, J: Book, L: LadderSet, B: Book>(
     series: i64,
     edition: Edition,
 ) -> Answers
-    ensures one { result.0 ≡ answer_in (run_in K.LadderSet.size K.LadderSet.lawful J.Book.meaning first.entry) series edition }
-    ensures other { result.1 ≡ answer_in (run_in L.LadderSet.size L.LadderSet.lawful B.Book.meaning second.entry) series edition }
-    ensures first_after { world first.exit.0.now (J.Book.meaning first.exit.1.0.now) ≡ end (run_in K.LadderSet.size K.LadderSet.lawful J.Book.meaning first.entry) }
-    ensures second_after { world second.exit.0.now (B.Book.meaning second.exit.1.0.now) ≡ end (run_in L.LadderSet.size L.LadderSet.lawful B.Book.meaning second.entry) }
-    ensures first_set { first.exit.0.now.set ≡ first.entry.house.now.set }
-    ensures second_set { second.exit.0.now.set ≡ second.entry.house.now.set }
+    ensures one { result.0 ≡ answer_in (run_in K.size K.lawful J.meaning first.entry) series edition }
+    ensures other { result.1 ≡ answer_in (run_in L.size L.lawful B.meaning second.entry) series edition }
+    ensures first_after { world first.exit.0.now (J.meaning first.exit.1.0.now)
+        ≡ end (run_in K.size K.lawful J.meaning first.entry) }
+    ensures second_after { world second.exit.0.now (B.meaning second.exit.1.0.now)
+        ≡ end (run_in L.size L.lawful B.meaning second.entry) }
+    ensures first_set { set_of first.exit.0.now ≡ set_of first.entry.house.now }
+    ensures second_set { set_of second.exit.0.now ≡ set_of second.entry.house.now }
 {
     let one = first.make_and_ask(series, edition);
     let other = second.make_and_ask(series, edition);
     (one, other)
 }
 
-// Performs two runs and asks both the same. Each house and each book then hold what stands at the end of its run, and each ladder
-// set is as it was. If the runs can be compared (`Comparable`: new houses on empty books of one day, ladder sets of one meaning,
-// and in both, by the calls taken, the series listed and the edition open), then
-// - the same evidence on the series' path gives the same answer;
-// - if only prices differ there, and none is lower in the second run, both settle on the same step and place, the second at
-//   no lower a price, or both are refused from the same origin;
-// - if only trades, auctions or spreads were added there, what settled settles, at the same place or an earlier one.
+/// Performs two runs and asks both the same. Each house and each book then hold what they have at the end of its run, and each
+/// ladder set is as it was. If the runs can be compared (`Comparable`: new houses on empty books of one day, ladder sets of one
+/// meaning, and in both, by the calls taken, the series listed and the edition open), then
+/// - the same evidence on the series' path gives the same answer;
+/// - if only prices differ there, and none is lower in the second run, both settle on the same step and place, the second at
+///   no lower a price, or both are refused from the same origin;
+/// - if only trades, auctions or spreads were added there, what settled settles, at the same place or an earlier one.
+///
+/// An error in an answer is the fault for which that run's house refuses the question: the edition is not open, the series is
+/// not listed, or no step finds a price.
 pub fn compare<K: LadderSet, J: Book, L: LadderSet, B: Book>(
     first: Run<'_, K, J>,
     second: Run<'_, L, B>,
     series: i64,
     edition: Edition,
 ) -> Answers
-    ensures laws { Laws (Comparable (run_in K.LadderSet.size K.LadderSet.lawful J.Book.meaning first.entry) (run_in L.LadderSet.size L.LadderSet.lawful B.Book.meaning second.entry) series edition) (run_in K.LadderSet.size K.LadderSet.lawful J.Book.meaning first.entry) (run_in L.LadderSet.size L.LadderSet.lawful B.Book.meaning second.entry) series edition result.0 result.1 }
-    ensures first_after { world first.exit.0.now (J.Book.meaning first.exit.1.0.now) ≡ end (run_in K.LadderSet.size K.LadderSet.lawful J.Book.meaning first.entry) }
-    ensures second_after { world second.exit.0.now (B.Book.meaning second.exit.1.0.now) ≡ end (run_in L.LadderSet.size L.LadderSet.lawful B.Book.meaning second.entry) }
-    ensures first_set { first.exit.0.now.set ≡ first.entry.house.now.set }
-    ensures second_set { second.exit.0.now.set ≡ second.entry.house.now.set }
+    ensures laws { let first_run = run_in K.size K.lawful J.meaning first.entry in
+        let second_run = run_in L.size L.lawful B.meaning second.entry in
+        Laws Comparable first_run second_run series edition result.0 result.1 }
+    ensures first_after { world first.exit.0.now (J.meaning first.exit.1.0.now)
+        ≡ end (run_in K.size K.lawful J.meaning first.entry) }
+    ensures second_after { world second.exit.0.now (B.meaning second.exit.1.0.now)
+        ≡ end (run_in L.size L.lawful B.meaning second.entry) }
+    ensures first_set { set_of first.exit.0.now ≡ set_of first.entry.house.now }
+    ensures second_set { set_of second.exit.0.now ≡ set_of second.entry.house.now }
 {
     ask_both(first, second, series, edition)
 }
 
-// The same, of runs that this call begins itself: one on a board of the capacity stated, one on a tape in the places lent.
-// So nothing is asked of the beginning, and only that the ladder sets have one meaning. What each run is made of stands apart,
-// since the two makes need different things.
+/// The same, of runs that this call begins itself: one on a board of the capacity stated, one on a tape in the places lent.
+/// So nothing is asked of the beginning, and only that the ladder sets have one meaning. What each run is made of stands apart,
+/// since the two makes need different things. The errors are those of `compare`.
 pub fn compare_makes<K: LadderSet + Drop, L: LadderSet + Drop>(
     day: LawfulDay,
     set: K,
@@ -99,7 +113,9 @@ pub fn compare_makes<K: LadderSet + Drop, L: LadderSet + Drop>(
     series: i64,
     edition: Edition,
 ) -> Answers
-    ensures laws { Laws (Alike (new_run K.LadderSet.size K.LadderSet.lawful set day (min capacity 30000) calls.now) (new_run L.LadderSet.size L.LadderSet.lawful other_set day (min (length slots.old) 30000) other_calls.now) series edition) (new_run K.LadderSet.size K.LadderSet.lawful set day (min capacity 30000) calls.now) (new_run L.LadderSet.size L.LadderSet.lawful other_set day (min (length slots.old) 30000) other_calls.now) series edition result.0 result.1 }
+    ensures laws { let first_run = new_run K.size K.lawful set day (min capacity 30000) calls.now in
+        let second_run = new_run L.size L.lawful other_set day (min (length slots.old) 30000) other_calls.now in
+        Laws Alike first_run second_run series edition result.0 result.1 }
 {
     let mut house = House::new(set);
     let mut board = Board::new(day, capacity);

@@ -10,6 +10,15 @@ returns g c =
     let d = x.day in
     let j = min x.capacity 30000 in
     let k = min (length x.slots.now) 30000 in
-    let first = begun g.K.LadderSet.size g.K.LadderSet.lawful c.new-house.result _ x.set d j x.calls.now c.new-house.ensures.state c.new-house.ensures.set c.new-board.ensures in
-    let second = begun g.L.LadderSet.size g.L.LadderSet.lawful c.new-other_house.result _ x.other_set d k x.other_calls.now c.new-other_house.ensures.state c.new-other_house.ensures.set c.new-tape.ensures in
-    record { laws = laws_begun _ _ (new_run g.K.LadderSet.size g.K.LadderSet.lawful x.set d j x.calls.now) (new_run g.L.LadderSet.size g.L.LadderSet.lawful x.other_set d k x.other_calls.now) _ x.series x.edition c.compare.result.0 c.compare.result.1 d j k first second (to_z-of_z w64 x.series c.ranges.series) refl refl c.compare.ensures.laws }
+    let size = g.K.LadderSet.size in
+    let lawful = g.K.LadderSet.lawful in
+    let other_size = g.L.LadderSet.size in
+    let other_lawful = g.L.LadderSet.lawful in
+    let house = c.new-house in
+    let other_house = c.new-other_house in
+    let first = begun size lawful house.result _ x.set d j x.calls.now house.ensures.state house.ensures.set c.new-board.ensures in
+    let second = begun other_size other_lawful other_house.result _ x.other_set d k x.other_calls.now other_house.ensures.state other_house.ensures.set c.new-tape.ensures in
+    record {
+      laws = laws_begun _ _ (new_run size lawful x.set d j x.calls.now) (new_run other_size other_lawful x.other_set d k x.other_calls.now) _ x.series x.edition
+          c.compare.result.0 c.compare.result.1 d j k first second (to_z-of_z w64 x.series c.ranges.series) refl refl c.compare.ensures.laws;
+    }

@@ -10,5 +10,5 @@ on_path [] z = false
 on_path (s ∷ path) z = is_series s z || on_path path z
 
 -- the entries for the series of a path, legs aside
-abbrev pub kept : List ℕ → List Entry → List Entry
-kept path es = filter (λ e. on_path path e.series && no_leg e.kind) es
+abbrev pub entries_on : List ℕ → List Entry → List Entry
+entries_on path es = filter (λ e. on_path path e.series && no_leg e.kind) es
