@@ -1,4 +1,5 @@
 pub mod Fields
+pub mod Faults
 pub mod Places
 pub mod Reading
 pub mod Values
