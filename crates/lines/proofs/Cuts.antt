@@ -5,10 +5,10 @@ use Rattle.std.proofs.lemmas.Bool.{true≢false}
 use Rattle.std.proofs.lemmas.Bool.Decides.{leb_tells}
 use Rattle.std.proofs.lemmas.List.Sums.{fails_before_first, passes_at_first, prefix_len-le-length}
 use Rattle.std.proofs.lemmas.List.{drop-drop, length-drop}
-use Rattle.lines.specs.Fields.{spaced, trailed, onto, fields, behind, left_at}
+use Rattle.lines.specs.Fields.{spaced, trailed, onto, fields, fields_after, left_at}
 
 -- a field's end: no space before it, and a space or the line's end at it
-pub field_cut : (xs : List ℕ) (k : ℕ) → k ≤ length xs → ((j : ℕ) → j < k → get_or xs j 0 ≡ 32 → ⊥) → (k ≡ length xs) ⊎ (get_or xs k 0 ≡ 32) → fields xs ≡ take k xs ∷ behind (drop k xs)
+pub field_cut : (xs : List ℕ) (k : ℕ) → k ≤ length xs → ((j : ℕ) → j < k → get_or xs j 0 ≡ 32 → ⊥) → (k ≡ length xs) ⊎ (get_or xs k 0 ≡ 32) → fields xs ≡ take k xs ∷ fields_after (drop k xs)
 field_cut [] zero h clean end = refl
 field_cut [] (suc k) h clean end = absurd (omega arith)
 field_cut (x ∷ xs) zero h clean (inl e) = absurd (omega arith)
@@ -30,7 +30,7 @@ field_cut_at line start p h is =
     let on : drop q xs ≡ drop (start + p) line = drop-drop q start line ∙ ap (λ n. drop n line) (omega arith) in (
       omega arith,
       field_cut xs q within (λ j l e. true≢false (sym (eq-eqb (get_or xs j 0) 32 e) ∙ fails_before_first test xs j 0 l)) (at_end xs q within (λ l. eqb-true (get_or xs q 0) 32 (passes_at_first test xs 0 l)))
-          ∙ ap (λ ys. take q xs ∷ behind ys) on
+          ∙ ap (λ ys. take q xs ∷ fields_after ys) on
           ∙ ap (λ n. take n xs ∷ left_at line (start + p)) (sym same),
     )
   where
@@ -39,7 +39,7 @@ field_cut_at line start p h is =
 
 -- what follows the space at a field's end
 pub left_cut : (line : List ℕ) (at : ℕ) → at < length line → left_at line at ≡ fields (drop (at + 1) line)
-left_cut line at h = ap behind (drop-cons line at 0 h) ∙ ap (λ n. fields (drop n line)) (sym (add-one at))
+left_cut line at h = ap fields_after (drop-cons line at 0 h) ∙ ap (λ n. fields (drop n line)) (sym (add-one at))
 
 -- no space is in the field
 abbrev pub Spaceless : List ℕ → Type 0
@@ -68,3 +68,9 @@ pub joined : (line f : List ℕ) (fs : List (List ℕ)) → fields line ≡ f �
 joined line f fs e =
     let s = shape line in
     sym s.3 ∙ ap spaced (sym s.2 ∙ e)
+
+-- before the line's end some field is left
+pub some_left : (line : List ℕ) (at : ℕ) → at < length line → left_at line at ≡ [] → ⊥
+some_left line at h e =
+    let s = shape (drop (at + 1) line) in
+    omega (arith, ap length (sym s.2 ∙ sym (left_cut line at h) ∙ e))

@@ -1,6 +1,6 @@
 -- Places at which fields depart from a grammar, from part to whole.
 use Rattle.std.proofs.Common.{◌≡◌, ℕ, ◌+◌, List, [], ◌∷◌, ◌++◌, length, sym, refl, ap, ◌∙◌, inl, inr}
-use Rattle.lines.specs.Places.{GoesOn, Lacks, Whole, Breaks, after, Missed}
+use Rattle.lines.specs.Places.{GoesOn, Lacks, Whole, Breaks, next_start, Missed}
 
 -- ---- a place in one grammar is a place in another, where the same fields go on
 
@@ -34,16 +34,16 @@ module _ {T R : Type 0} (ts : T → List ℕ) (tl : T → Type 0) (rs : R → Li
   whole_more t h good w = record { meant = (t, w.meant); holds = (h, w.holds); writes = ap (λ xs. ts t ∷ xs) w.writes }
 
   -- the first value is right, and a later one is not
-  pub missed_more : (t : T) → tl t → (f : List ℕ) → f ≡ ts t → (all fs fs' : List (List ℕ)) → all ≡ f ∷ fs → fs' ≡ fs → (q q' p : ℕ) → q' ≡ q + (length f + 1) → Missed rs rl fs' q' p → Missed both_spelt both_lawful all q p
-  missed_more t h f ef all fs fs' e e' q q' p eq m =
-      let b : Breaks rs rl m.good m.rest (after m.good (q + (length (ts t) + 1))) p = rw (ap (λ g. after m.good (q + (length g + 1))) (sym ef), ap (after m.good) (sym eq)) m.breaks in
+  pub missed_more : (t : T) → tl t → (f : List ℕ) → f ≡ ts t → (all fs : List (List ℕ)) → all ≡ f ∷ fs → (q q' p : ℕ) → q' ≡ q + (length f + 1) → Missed rs rl fs q' p → Missed both_spelt both_lawful all q p
+  missed_more t h f ef all fs e q q' p eq m =
+      let b : Breaks rs rl m.good m.rest (next_start m.good (q + (length (ts t) + 1))) p = rw (ap (λ g. next_start m.good (q + (length g + 1))) (sym ef), ap (next_start m.good) (sym eq)) m.breaks in
       record {
         good = ts t ∷ m.good;
         rest = m.rest;
-        parts = e ∙ ap (λ g. g ∷ fs) ef ∙ ap (λ xs. ts t ∷ xs) (sym e' ∙ m.parts);
+        parts = e ∙ ap (λ g. g ∷ fs) ef ∙ ap (λ xs. ts t ∷ xs) m.parts;
         breaks =
             breaks_to rs rl both_spelt both_lawful m.good (ts t ∷ m.good) (goes_more t h m.good) (goes_less t m.good)
-            (whole_more t h m.good) m.rest (after m.good (q + (length (ts t) + 1))) p b;
+            (whole_more t h m.good) m.rest (next_start m.good (q + (length (ts t) + 1))) p b;
       }
 
   -- a field begins lawful values
@@ -52,12 +52,12 @@ module _ {T R : Type 0} (ts : T → List ℕ) (tl : T → Type 0) (rs : R → Li
       record { field = ts t; goes = record { meant = (t, r); holds = (h, k); more = rs r; writes = refl } }
 
   -- no field is left, though one is lacking
-  pub missed_none : (t : T) → tl t → (r : R) → rl r → (fs : List (List ℕ)) → fs ≡ [] → (p : ℕ) → Missed both_spelt both_lawful fs (p + 1) p
-  missed_none t h r k fs e p = record { good = []; rest = []; parts = e; breaks = (lacks_first t h r k, refl) }
+  pub missed_none : (t : T) → tl t → (r : R) → rl r → (fs : List (List ℕ)) → fs ≡ [] → (q p : ℕ) → p + 1 ≡ q → Missed both_spelt both_lawful fs q p
+  missed_none t h r k fs e q p at = record { good = []; rest = []; parts = e; breaks = (lacks_first t h r k, at) }
 
   -- the first field is the writing of no value
-  pub missed_first : (t : T) → tl t → (r : R) → rl r → (f : List ℕ) (all fs : List (List ℕ)) → all ≡ f ∷ fs → (q : ℕ) → ((v : T) → tl v → f ≡ ts v → ⊥) → Missed both_spelt both_lawful all q q
-  missed_first t h r k f all fs e q none =
+  pub missed_first : (t : T) → tl t → (r : R) → rl r → (f : List ℕ) (all fs : List (List ℕ)) → all ≡ f ∷ fs → (q p : ℕ) → p ≡ q → ((v : T) → tl v → f ≡ ts v → ⊥) → Missed both_spelt both_lawful all q p
+  missed_first t h r k f all fs e q p at none =
       record {
         good = [];
         rest = f ∷ fs;
@@ -68,7 +68,7 @@ module _ {T R : Type 0} (ts : T → List ℕ) (tl : T → Type 0) (rs : R → Li
               (λ g. let w : ts g.meant.0 ∷ rs g.meant.1 ≡ f ∷ g.more = g.writes in
                   let v : f ≡ ts g.meant.0 = cc in
                   none g.meant.0 g.holds.0 v),
-              refl,
+              at,
             );
       }
 
@@ -97,5 +97,5 @@ module _ {C D : Type 0} (cs : C → List (List ℕ)) (cl : C → Type 0) (ds : D
         parts = m.parts;
         breaks =
             breaks_to cs cl ds dl m.good m.good (goes_into cs cl ds dl to m.good) (goes_into ds dl cs cl from m.good)
-            (whole_into m.good) m.rest (after m.good q) p m.breaks;
+            (whole_into m.good) m.rest (next_start m.good q) p m.breaks;
       }

@@ -1,14 +1,15 @@
 -- Numbers written in digits, with or without a minus.
-use Rattle.std.proofs.Common.{◌≡◌, ℕ, zero, suc, ◌+◌, ◌-◌, ◌*◌, ◌^◌, ◌<◌, ◌≤◌, List, [], ◌∷◌, length, get_or, take, drop, ℤ, pos, negsuc, nat_abs, Some, None, decimal, Option, sym, refl, ap, ◌∙◌, arith}
+use Rattle.std.proofs.Common.{◌≡◌, ℕ, zero, suc, ◌+◌, ◌-◌, ◌*◌, ◌^◌, ◌<◌, ◌≤◌, List, [], ◌∷◌, length, get_or, take, ℤ, pos, negsuc, Some, None, decimal, Option, sym, refl, ap, ◌∙◌, subst, arith}
+use Rattle.std.specs.Option.{option_flatten}
 use Rattle.std.proofs.lemmas.Fmt.{decimal_nonempty, decimal_digit, decimal-digits_value, digits_decimal, first_decimal, length-decimal-le, decimal_injective}
 use Rattle.std.proofs.lemmas.Int.Digits.{digits_more, digits_value_more}
-use Rattle.std.proofs.lemmas.List.{length-take-le, take_all}
+use Rattle.std.proofs.lemmas.List.{length-take-le}
 use Rattle.std.proofs.lemmas.Str.Parse.{IsNumeralModel, digit_at, numerals_by_value, tells_digits, digits_value_short}
 use Rattle.std.specs.Str.Parse.{AllDigits, digits_value}
 use Rattle.std.specs.Int.{IsInRange}
 use Rattle.std.specs.Char.{digit_value}
 use Rattle.std.specs.Fmt.{signed_decimal}
-use Rattle.lines.specs.Values.{Classed, Numbered, Valued}
+use Rattle.lines.specs.Values.{Brief, BriefIf, Classed, FieldBy, Numbered, Valued, signed_if}
 use Rattle.lines.specs.declared.classes.ByteClass.{ByteClass}
 use Rattle.lines.specs.declared.classes.ByteClass.TheVariants.{Digit, Minus, Space, Other}
 
@@ -66,30 +67,55 @@ digit_step ds i n d l h v e s =
 pub not_digits : (ds : List ℕ) (i : ℕ) (r : ByteClass) → i < length ds → Classed (get_or ds i 0) r → ((d : ℕ) → r ≡ Digit d → ⊥) → AllDigits 10 ds → ⊥
 not_digits ds i r l h other all = no_digit (get_or ds i 0) r h other (digit_at ds i all l)
 
--- ---- with a minus
+-- ---- with a minus, or missing
 
 -- a number begins with a digit
-pub first_digit : (n : ℕ) → n < 10 ^ 10 → get_or (decimal n) 0 0 ≡ 45 → ⊥
-first_digit n h e =
-    omega (arith, digit_at (decimal n) 0 (digits_decimal own n (omega arith)) (decimal_nonempty n (omega arith)))
+pub first_digit : (n : ℕ) → n < 10 ^ 10 → IsInRange 48 57 (get_or (decimal n) 0 0)
+first_digit n h = digit_at (decimal n) 0 (digits_decimal own n (omega arith)) (decimal_nonempty n (omega arith))
 
-pub minus_front : (f : List ℕ) → 0 < length f → get_or f 0 0 ≡ 45 → f ≡ 45 ∷ take (length f - 1) (drop 1 f)
-minus_front [] l e = absurd (omega arith)
-minus_front (b ∷ f) l e = rw e (ap (λ xs. 45 ∷ xs) (sym (take_all (suc (length f) - 1) f (omega arith))))
+-- no number is written by a minus alone
+pub lone_minus : (z : ℤ) → Brief z → signed_decimal z ≡ 45 ∷ [] → ⊥
+lone_minus (pos n) h e = omega (arith, ap (λ xs. get_or xs 0 0) e, first_digit n h)
+lone_minus (negsuc n) h e = omega (arith, ap length e, decimal_nonempty (suc n) (omega arith))
 
--- a minus, and then no number over zero
-pub minus_none : (f ds : List ℕ) → f ≡ 45 ∷ ds → ((n : ℕ) → 0 < n → n < 10 ^ 10 → ds ≡ decimal n → ⊥) → (v : ℤ) → nat_abs v < 10 ^ 10 → f ≡ signed_decimal v → ⊥
-minus_none f ds m none (pos n) h e = first_digit n h (ap (λ xs. get_or xs 0 0) (sym e ∙ m))
-minus_none f ds m none (negsuc n) h e =
-    let w : 45 ∷ ds ≡ 45 ∷ decimal (suc n) = sym m ∙ e in
+-- a minus, and then some bytes that are no number over zero
+pub minus_none : (f : List ℕ) (b : ℕ) (ds : List ℕ) → f ≡ b ∷ ds → b ≡ 45 → 0 < length ds → ((n : ℕ) → 0 < n → n < 10 ^ 10 → ds ≡ decimal n → ⊥) → (v : Option ℤ) → BriefIf v → f ≡ signed_if v → ⊥
+minus_none f b ds m is l none None h e = omega (arith, ap length m, ap length e)
+minus_none f b ds m is l none (Some (pos n)) h e = omega (arith, is, ap (λ xs. get_or xs 0 0) (sym e ∙ m), first_digit n h)
+minus_none f b ds m is l none (Some (negsuc n)) h e =
+    let w : b ∷ ds ≡ 45 ∷ decimal (suc n) = sym m ∙ e in
     let d : ds ≡ decimal (suc n) = cc in
     none (suc n) (omega arith) h d
 
-pub minus_zero : (f ds : List ℕ) (z : ℕ) → f ≡ 45 ∷ ds → ds ≡ decimal z → z ≡ 0 → (v : ℤ) → nat_abs v < 10 ^ 10 → f ≡ signed_decimal v → ⊥
-minus_zero f ds z m w o =
-    minus_none f ds m (λ n l h e. omega (arith, decimal_injective z n (omega arith) (omega arith) (sym w ∙ e)))
+-- a minus and a zero
+pub minus_zero : (f : List ℕ) (b : ℕ) (ds : List ℕ) (n : ℕ) → f ≡ b ∷ ds → b ≡ 45 → 0 < length ds → ds ≡ decimal n → n ≡ 0 → (v : Option ℤ) → BriefIf v → f ≡ signed_if v → ⊥
+minus_zero f b ds n m is l w o =
+    minus_none f b ds m is l (λ k p h d. omega (arith, decimal_injective n k (omega arith) (omega arith) (sym w ∙ d)))
+
+-- no byte at all
+pub not_empty : (f : List ℕ) → length f ≡ 0 → (v : Option ℤ) → BriefIf v → f ≡ signed_if v → ⊥
+not_empty f l None h e = omega (arith, ap length e)
+not_empty f l (Some (pos n)) h e = omega (arith, ap length e, decimal_nonempty n (omega arith))
+not_empty f l (Some (negsuc n)) h e = omega (arith, ap length e)
+
+no_minus : (b : ℕ) (r : ByteClass) → Classed b r → (r ≡ Minus → ⊥) → b ≡ 45 → ⊥
+no_minus b (Digit d) h other e = omega arith
+no_minus b Minus h other e = other refl
+no_minus b Space h other e = omega arith
+no_minus b Other h other e = h.1 e
+
+-- a first byte that is no digit and no minus
+pub other_first : (f : List ℕ) (b : ℕ) (rest : List ℕ) (r : ByteClass) → f ≡ b ∷ rest → Classed b r → ((d : ℕ) → r ≡ Digit d → ⊥) → (r ≡ Minus → ⊥) → (v : Option ℤ) → BriefIf v → f ≡ signed_if v → ⊥
+other_first f b rest r w k digit minus None h e = no_minus b r k minus (ap (λ xs. get_or xs 0 0) (sym w ∙ e))
+other_first f b rest r w k digit minus (Some (pos n)) h e =
+    no_digit b r k digit (subst (IsInRange 48 57) (ap (λ xs. get_or xs 0 0) (sym e ∙ w)) (first_digit n h))
+other_first f b rest r w k digit minus (Some (negsuc n)) h e = no_minus b r k minus (ap (λ xs. get_or xs 0 0) (sym w ∙ e))
+
+-- what is a number or missing, read as a number
+pub flattened : (f : List ℕ) (r : Option (Option ℤ)) → FieldBy signed_if BriefIf f r → FieldBy signed_decimal Brief f (option_flatten r)
+flattened f None none = λ z h e. none (Some z) h e
+flattened f (Some None) h = λ z b e. lone_minus z b (sym e ∙ h.1)
+flattened f (Some (Some z)) h = h
 
 -- what reading digits cites
 pub ruleset numerals = (numbered, too_long, too_short, zero_first, not_digits, so_far)
-
-pub ruleset minus = (minus_front, minus_none)

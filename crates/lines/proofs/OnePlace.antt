@@ -1,6 +1,6 @@
 -- A place at which fields depart from a grammar of which no writing begins another.
 use Rattle.std.proofs.Common.{◌≡◌, ℕ, List, [], ◌∷◌, ◌++◌, sym, refl, ap, ◌∙◌, inl, inr, append_assoc, append-nil, arith}
-use Rattle.lines.specs.Places.{GoesOn, Whole, Breaks, after, Missed}
+use Rattle.lines.specs.Places.{GoesOn, Whole, Breaks, next_start, Missed}
 
 -- of two ways to cut a list, the cuts are the same, or one comes first
 data Cuts (a b c d : List (List ℕ)) : Type 0 where
@@ -41,7 +41,7 @@ module _ {C : Type 0} (spelt : C → List (List ℕ)) (lawful : C → Type 0) (f
 
   -- fields that are missed are the writing of nothing lawful
   pub refused : (fs : List (List ℕ)) (q p : ℕ) → Missed spelt lawful fs q p → (c : C) → lawful c → fs ≡ spelt c → ⊥
-  refused fs q p m = refused_at m.good m.rest fs (after m.good q) p m.parts m.breaks
+  refused fs q p m = refused_at m.good m.rest fs (next_start m.good q) p m.parts m.breaks
 
   one_at : (good rest : List (List ℕ)) (q p p' : ℕ) → Breaks spelt lawful good rest q p → Breaks spelt lawful good rest q p' → p ≡ p'
   one_at good [] q p p' b b' = omega (arith, b.1, b'.1)
@@ -73,13 +73,13 @@ module _ {C : Type 0} (spelt : C → List (List ℕ)) (lawful : C → Type 0) (f
       let w : f ≡ h = cc in b.1 (rw w at g)
   no_later good (h ∷ rest) q p (inr b) f more e g = whole_goes good f b.0 g
 
-  one_cut : (a b c d : List (List ℕ)) (q p p' : ℕ) → Cuts a b c d → Breaks spelt lawful a b (after a q) p → Breaks spelt lawful c d (after c q) p' → p ≡ p'
+  one_cut : (a b c d : List (List ℕ)) (q p p' : ℕ) → Cuts a b c d → Breaks spelt lawful a b (next_start a q) p → Breaks spelt lawful c d (next_start c q) p' → p ≡ p'
   one_cut a b c d q p p' (same e w) x y =
-      one_at c d (after c q) p p' (rw (sym e, sym w) x) y
+      one_at c d (next_start c q) p p' (rw (sym e, sym w) x) y
   one_cut a b c d q p p' (sooner f m e w) x y =
-      absurd (no_later a b (after a q) p x f (m ++ d) w (begun c d (after c q) p' y a f m e))
+      absurd (no_later a b (next_start a q) p x f (m ++ d) w (begun c d (next_start c q) p' y a f m e))
   one_cut a b c d q p p' (later f m e w) x y =
-      absurd (no_later c d (after c q) p' y f (m ++ b) w (begun a b (after a q) p x c f m e))
+      absurd (no_later c d (next_start c q) p' y f (m ++ b) w (begun a b (next_start a q) p x c f m e))
 
   -- there is one place only
   pub one_place : (fs : List (List ℕ)) (q p p' : ℕ) → Missed spelt lawful fs q p → Missed spelt lawful fs q p' → p ≡ p'

@@ -8,7 +8,7 @@ use Rattle.lines.specs.declared.faults.NotRead.{NotRead}
 use Rattle.lines.specs.declared.names.Command.{Command}
 use Rattle.lines.specs.Fields.{fields, trailed}
 use Rattle.lines.specs.Names.{text}
-use Rattle.lines.specs.Places.{GoesOn, Lacks, Whole, Breaks, after, Missed, ReadBy}
+use Rattle.lines.specs.Places.{GoesOn, Lacks, Whole, Breaks, next_start, Missed, ReadBy}
 use Rattle.lines.specs.Spelled.{BriefCall, Named, Parsed, command, spelled, values}
 use Rattle.lines.proofs.Apart.{front_free, same_command}
 use Rattle.lines.proofs.Cuts.{joined}
@@ -48,14 +48,14 @@ whole_named k good w =
 
 missed_named : (k : Command) (all left : List (List ℕ)) → all ≡ text k ∷ left → (q p : ℕ) → q ≡ 0 + (length (text k) + 1) → Missed values (Named k) left q p → Missed spelled BriefCall all 0 p
 missed_named k all left e q p n m =
-    let b : Breaks values (Named k) m.good m.rest (after m.good (0 + (length (text k) + 1))) p = rw (ap (after m.good) (sym n)) m.breaks in
+    let b : Breaks values (Named k) m.good m.rest (next_start m.good (0 + (length (text k) + 1))) p = rw (ap (next_start m.good) (sym n)) m.breaks in
     record {
       good = text k ∷ m.good;
       rest = m.rest;
       parts = e ∙ ap (λ xs. text k ∷ xs) m.parts;
       breaks =
           breaks_to values (Named k) spelled BriefCall m.good (text k ∷ m.good) (goes_named k m.good) (goes_unnamed k m.good)
-          (whole_named k m.good) m.rest (after m.good (0 + (length (text k) + 1))) p b;
+          (whole_named k m.good) m.rest (next_start m.good (0 + (length (text k) + 1))) p b;
     }
 
 -- ---- a line of at most 200 bytes that is missed

@@ -1,7 +1,7 @@
 -- No two calls share a line, and a line has one place at most.
-use Rattle.std.proofs.Common.{◌≡◌, ℕ, suc, ◌^◌, ◌<◌, Bool, true, false, List, [], ◌∷◌, length, get_or, ℤ, pos, negsuc, Some, None, Ok, Err, Option, Result, sym, refl, ap, ◌∙◌, ⊎_elim, arith}
+use Rattle.std.proofs.Common.{◌≡◌, ℕ, ◌^◌, ◌<◌, Bool, true, false, List, [], ◌∷◌, length, get_or, ℤ, pos, negsuc, Some, None, Ok, Err, Option, Result, sym, refl, ap, ◌∙◌, ⊎_elim, arith}
 use lib.Signed.{mag}
-use Rattle.std.proofs.lemmas.Fmt.{decimal_nonempty, signed_decimal_injective}
+use Rattle.std.proofs.lemmas.Fmt.{signed_decimal_injective}
 use Rattle.std.proofs.lemmas.Bool.{cases_lt}
 use Rattle.std.specs.Fmt.{signed_decimal}
 use Rattle.house.specs.declared.phases.Bell.{Bell}
@@ -18,7 +18,7 @@ use Rattle.lines.proofs.Apart.{front_free, same_command}
 use Rattle.lines.proofs.Ends.{place_within, fields_end}
 use Rattle.lines.proofs.Made.{Sort, Tuple, Value, bell, call_of, edition, flag, made, made_named, number, number_if, sorts, tuple_lawful, tuple_spelt, value_lawful, value_spelt}
 use Rattle.lines.proofs.Neat.{fields_written, written_short}
-use Rattle.lines.proofs.Numbers.{first_digit}
+use Rattle.lines.proofs.Numbers.{lone_minus}
 use Rattle.lines.proofs.OnePlace.{one_place}
 use Rattle.lines.proofs.Parsings.{parsed_long, parsed_read, parsed_unknown}
 
@@ -30,11 +30,6 @@ brief_mag (negsuc n) h = omega arith
 
 signed_apart : (y z : ℤ) → Brief y → Brief z → signed_decimal y ≡ signed_decimal z → y ≡ z
 signed_apart y z h k = signed_decimal_injective y z (brief_mag y h) (brief_mag z k)
-
--- no number is written by a minus alone
-lone_minus : (z : ℤ) → Brief z → signed_decimal z ≡ 45 ∷ [] → ⊥
-lone_minus (pos n) h e = first_digit n h (ap (λ xs. get_or xs 0 0) e)
-lone_minus (negsuc n) h e = omega (arith, ap length e, decimal_nonempty (suc n) (omega arith))
 
 signed_if_apart : (y z : Option ℤ) → BriefIf y → BriefIf z → signed_if y ≡ signed_if z → y ≡ z
 signed_if_apart None None h k e = refl

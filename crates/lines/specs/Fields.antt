@@ -21,9 +21,9 @@ fields [] = [] ∷ []
 fields (b ∷ bs) = cond (b == 32) ([] ∷ fields bs) (onto b (fields bs))
 
 -- the fields that follow the end of a field, where a space stands or the line ends
-abbrev pub behind : List ℕ → List (List ℕ)
-behind [] = []
-behind (b ∷ bs) = fields bs
+abbrev pub fields_after : List ℕ → List (List ℕ)
+fields_after [] = []
+fields_after (b ∷ bs) = fields bs
 
 abbrev pub left_at : List ℕ → ℕ → List (List ℕ)
-left_at line at = behind (drop at line)
+left_at line at = fields_after (drop at line)

@@ -28,16 +28,16 @@ Breaks spelt lawful good (f ∷ more) q p =
     (Lacks spelt lawful good × (GoesOn spelt lawful good f → ⊥) × (p ≡ q)) ⊎ (Whole spelt lawful good × (p + 1 ≡ q))
 
 -- where a next field would begin after the fields, of which the first begins at q
-abbrev pub after : List (List ℕ) → ℕ → ℕ
-after [] q = q
-after (f ∷ fs) q = after fs (q + (length f + 1))
+abbrev pub next_start : List (List ℕ) → ℕ → ℕ
+next_start [] q = q
+next_start (f ∷ fs) q = next_start fs (q + (length f + 1))
 
 -- the place p at which the fields, of which the first begins at q, depart from every lawful writing
 pub record Missed {C : Type 0} (spelt : C → List (List ℕ)) (lawful : C → Type 0) (fs : List (List ℕ)) (q p : ℕ) : Type 0 where
   pub good : List (List ℕ)
   pub rest : List (List ℕ)
   pub parts : fs ≡ good ++ rest
-  pub breaks : Breaks spelt lawful good rest (after good q) p
+  pub breaks : Breaks spelt lawful good rest (next_start good q) p
 
 -- the fields are the writing of what was read; or they are not, from some place on
 abbrev pub ReadBy : {C : Type 0} → (C → List (List ℕ)) → (C → Type 0) → List (List ℕ) → ℕ → Result C NotRead → Type 0

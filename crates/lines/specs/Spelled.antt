@@ -15,7 +15,7 @@ use Rattle.lines.specs.declared.names.Command.{Command}
 use Rattle.lines.specs.declared.names.Command.TheVariants as commands
 use Rattle.lines.specs.Fields.{fields, spaced}
 use Rattle.lines.specs.Names.{text}
-use Rattle.lines.specs.Places.{Missed, after}
+use Rattle.lines.specs.Places.{Missed, next_start}
 use Rattle.lines.specs.Values.{Brief, BriefIf, mark, signed_if}
 
 -- ---- which command says a call
@@ -143,4 +143,4 @@ OnePlace = (line : List ℕ) (p q : ℕ) → Place line p → Place line q → p
 -- after all the fields of a line a next one would begin behind a space at the line's end: where a field is lacking, the place
 -- is the line's length
 abbrev pub FieldsEnd : Type 0
-FieldsEnd = (line : List ℕ) → after (fields line) 0 ≡ length line + 1
+FieldsEnd = (line : List ℕ) → next_start (fields line) 0 ≡ length line + 1

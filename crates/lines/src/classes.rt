@@ -1,22 +1,26 @@
 // Bytes by what they are to a line.
 ghost use Rattle.lines.specs.Values.{Classed};
 
+/// What a byte is to a line.
 #[derive(Clone, Copy, PartialEq, Eq)]
 pub enum ByteClass {
+    /// `0` to `9`, with the value of the digit.
     Digit(u8),
+    /// The sign of a negative value or, alone, a missing value.
     Minus,
+    /// The end of a field.
     Space,
+    /// None of these: it stands in names and words only.
     Other,
 }
 
+/// The class of the byte.
 pub fn class_of(byte: u8) -> ByteClass
     ensures { Classed byte result }
 {
-    // Digits first, on their own: they are the most of a line, and as one match of four arms they would be told last.
-    if byte.is_ascii_digit() {
-        return ByteClass::Digit(byte - b'0');
-    }
+    // Digits first: they are the most of a line.
     match byte {
+        b'0'..=b'9' => ByteClass::Digit(byte - b'0'),
         b'-' => ByteClass::Minus,
         b' ' => ByteClass::Space,
         _ => ByteClass::Other,

@@ -5,18 +5,30 @@ ghost use Rattle.std.proofs.Common.{rules};
 
 use crate::values::FromField;
 
+/// A command: which call a line says. Its name is the line's first field, and the values of the call follow.
 #[derive(Clone, Copy)]
 pub enum Command {
+    /// The day record and the ticks of the ladders.
     Day,
+    /// The terms of a series.
     List,
+    /// The bell that opens or closes the evening.
     Bell,
+    /// An entry: a trade.
     Trade,
+    /// An entry: an auction.
     Auction,
+    /// An entry: a leg.
     Leg,
+    /// An entry: a spread.
     Spread,
+    /// An entry: a quote.
     Quote,
+    /// The theory value of a series.
     Theory,
+    /// The ruling on a series.
     Ruling,
+    /// The question for a price.
     Settle,
 }
 

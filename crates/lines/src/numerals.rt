@@ -24,7 +24,7 @@ fn value_of(digits: &[u8]) -> Option<u64>
     Some(n)
 }
 
-// The number of one to ten digits, with no zero before other digits.
+/// The number that the bytes are the digits of: one to ten digits, with no zero before other digits. Other bytes are `None`.
 pub fn number(digits: &[u8]) -> Option<u64>
     ensures { Numbered digits.now result }
 {

@@ -8,18 +8,18 @@ ghost use Rattle.lines.specs.declared.line_calls.LineCall.TheVariants as lines;
 ghost use Rattle.lines.specs.declared.names.Command.TheVariants as commands;
 ghost use Rattle.calls.specs.declared.call.Call.TheVariants as calls;
 
-use crate::line_calls::LineCall;
 use crate::faults::NotRead;
+use crate::line_calls::LineCall;
 use crate::names::Command;
 use crate::readers::{LONGEST, Reader};
 use crate::tuples::FromFields;
 use crate::values::FromField;
 use book::days::Day;
 use book::entries::{Entry, Kind};
+use calls::call::Call;
 use house::phases::Bell;
 use house::terms::Listing;
 use rows::places::{Edition, Marks};
-use calls::call::Call;
 
 // The values of a line as nested pairs, as they are read.
 type Four = (i64, (i64, (i64, (i64, ()))));
@@ -171,7 +171,8 @@ fn read(command: Command, reader: &mut Reader<'_>) -> Result<LineCall, NotRead>
     }
 }
 
-// The call that the line is the writing of.
+/// The call that the line is the writing of. The error is for a line that is no call's, and tells where the line departs from
+/// the grammar.
 pub fn parse(line: &[u8]) -> Result<LineCall, NotRead>
     ensures parsed { Parsed line.now result }
     ensures alone { Alone line.now result }
@@ -183,14 +184,14 @@ pub fn parse(line: &[u8]) -> Result<LineCall, NotRead>
         });
     }
     let (name, mut reader) = Reader::begin(line);
-    let Some(command) = Command::from_field(name) else {
-        return Err(NotRead { place: 0 });
+    let Some(command) = Command::from_field(name.bytes) else {
+        return Err(name.refusal());
     };
     read(command, &mut reader)
 }
 
-// How long the line of a call can be. Its clauses are the laws of the grammar: no call has a longer line, no two calls share
-// one, no line is read in two ways or has two places, and a line's fields end where the line does.
+/// How long the line of a call can be, in bytes. Its clauses are the laws of the grammar: no call has a longer line, no two
+/// calls share one, no line is read in two ways or has two places, and a line's fields end where the line does.
 pub fn longest_line() -> usize
     ensures value { result ≡ 200 }
     ensures longest { Longest result }

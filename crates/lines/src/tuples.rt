@@ -7,7 +7,8 @@ use crate::faults::NotRead;
 use crate::readers::Reader;
 use crate::values::FromField;
 
-// A trait of its own, as `FromField` is, and beside it: a list of values is written in fields, a value in bytes.
+/// What can be read from all the fields that are left of a line. A trait beside `FromField`, since a list of values is written
+/// in fields, and a value in bytes.
 pub trait FromFields: Sized {
     // How the values are written, and which may be.
     ghost spelt: { Self → List (List ℕ) };
@@ -17,7 +18,7 @@ pub trait FromFields: Sized {
     // Some value may be written.
     ghost sample: { Self };
 
-    // The values that all the fields left are the writing of.
+    /// The values that all the fields left are the writing of; or else where these fields depart from every such writing.
     fn from_fields(reader: &mut Reader<'_>) -> Result<Self, NotRead>
         ensures { ReadFrom spelt lawful reader.old result };
 
@@ -34,11 +35,7 @@ impl FromFields for () {
     ghost sampled = { Prim.search rules };
 
     fn from_fields(reader: &mut Reader<'_>) -> Result<(), NotRead> {
-        let place = reader.at as u8;
-        match reader.next_field() {
-            Some(_) => Err(NotRead { place }),
-            None => Ok(()),
-        }
+        reader.end()
     }
 }
 
@@ -52,13 +49,9 @@ impl<T: FromField + Drop, R: FromFields> FromFields for (T, R) {
     ghost sampled = { Prim.search rules };
 
     fn from_fields(reader: &mut Reader<'_>) -> Result<(T, R), NotRead> {
-        let end = reader.at as u8;
-        // Each `let .. else` tells its refusal where it comes about; an `ok_or` would be no plainer.
-        let Some(field) = reader.next_field() else {
-            return Err(NotRead { place: end });
-        };
-        let Some(first) = T::from_field(field) else {
-            return Err(NotRead { place: end + 1 });
+        let field = reader.next_field()?;
+        let Some(first) = T::from_field(field.bytes) else {
+            return Err(field.refusal());
         };
         let rest = R::from_fields(reader)?;
         Ok((first, rest))

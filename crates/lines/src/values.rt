@@ -1,15 +1,16 @@
 // Values, each in one field.
-#![tactic(auto, using(crate::proofs::Numbers::minus))]
+#![tactic(auto, using(crate::proofs::Numbers::flattened))]
 
 ghost use Rattle.std.specs.Prelude.{ℕ, false, List, pos, None};
 ghost use Rattle.std.specs.Fmt.{signed_decimal};
 ghost use Rattle.lines.specs.Values.{Brief, BriefIf, FieldBy, mark, signed_if};
 ghost use Rattle.std.proofs.Common.{rules};
 
+use crate::classes::{ByteClass, class_of};
 use crate::numerals::number;
 
-// A trait of its own, since TryFrom of bytes could not be implemented here for numbers and marks, and since it also says how a
-// value is written: reading is proved the inverse of that.
+/// What can be read from one field. A trait of its own, since `TryFrom` of bytes could not be implemented here for numbers and
+/// marks, and since it also says how a value is written: reading is proved the inverse of that.
 pub trait FromField: Sized {
     // How a value is written, and which values may be.
     ghost spelt: { Self → List ℕ };
@@ -19,11 +20,27 @@ pub trait FromField: Sized {
     // Some value may be written.
     ghost sample: { Self };
 
-    // The value that the field is the writing of.
+    /// The value that the field is the writing of, or `None` where it is the writing of no value.
     fn from_field(field: &[u8]) -> Option<Self>
         ensures { FieldBy spelt lawful field.now result };
 
     ghost sampled: { lawful sample };
+}
+
+// What a field says where a number may be missing: `Some(None)` is a minus alone.
+fn number_or_missing(field: &[u8]) -> Option<Option<i64>>
+    ensures { FieldBy signed_if BriefIf field.now result }
+{
+    let (first, rest) = field.split_first()?;
+    match (class_of(*first), rest) {
+        (ByteClass::Digit(_), _) => Some(Some(number(field)? as i64)),
+        (ByteClass::Minus, []) => Some(None),
+        (ByteClass::Minus, digits) => match number(digits)? {
+            0 => None,
+            n => Some(Some(-(n as i64))),
+        },
+        _ => None,
+    }
 }
 
 impl FromField for i64 {
@@ -35,14 +52,9 @@ impl FromField for i64 {
 
     ghost sampled = { Prim.search rules };
 
+    // A missing number is none.
     fn from_field(field: &[u8]) -> Option<i64> {
-        match field {
-            [b'-', digits @ ..] => match number(digits)? {
-                0 => None,
-                n => Some(-(n as i64)),
-            },
-            _ => Some(number(field)? as i64),
-        }
+        number_or_missing(field).flatten()
     }
 }
 
@@ -56,10 +68,7 @@ impl FromField for Option<i64> {
     ghost sampled = { Prim.search rules };
 
     fn from_field(field: &[u8]) -> Option<Option<i64>> {
-        match field {
-            [b'-'] => Some(None),
-            _ => Some(Some(i64::from_field(field)?)),
-        }
+        number_or_missing(field)
     }
 }
 

@@ -1,0 +1,5 @@
+// Small cases, tried on lines.
+#![tactic(auto)]
+
+#[cfg(test)]
+mod lines;

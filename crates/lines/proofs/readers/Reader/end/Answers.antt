@@ -1,0 +1,6 @@
+use Rattle.std.proofs.Common.{refl}
+use Rattle.lines.proofs.Cuts.{some_left}
+use Rattle.lines.proofs.readers.Reader.end.Goals as goal
+
+pub returns-then-self : goal.returns-then-self
+returns-then-self c = (some_left c.args.self.now.line.now c.args.self.now.at c.if-self.true, refl)
