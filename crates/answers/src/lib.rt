@@ -2,6 +2,4 @@
 #![tactic(auto)]
 
 pub mod faults;
-#[cfg(test)]
-mod tests;
 pub mod writing;

@@ -1,6 +1,6 @@
 // Examples: each kind of answer in a buffer of dots, and a buffer that is too short.
-use crate::faults::LineFault;
-use crate::writing::write_answer;
+use answers::faults::LineFault;
+use answers::writing::write_answer;
 use book::faults::{BookFault, DayFault};
 use house::answers::Settlement;
 use house::faults::HouseFault;
@@ -15,7 +15,7 @@ fn price(series: i64, price: i64, step: Step, place: u8) -> Result<Reply, LineFa
 }
 
 #[test]
-fn taken(rt: HostRuntime) {
+fn taken_calls(rt: HostRuntime) {
     let mut out = [b'.'; 96];
     assert_eq!(rt; write_answer(&Ok(Reply::Done), &mut out), Ok(4));
     assert!(rt; out.starts_with(b"done.."));
