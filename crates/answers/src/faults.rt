@@ -69,7 +69,10 @@ impl fmt::Display for LineFault {
             LineFault::Ladders(fault) => write!(f, "{fault}"),
             LineFault::House(fault) => write!(f, "{fault}"),
             LineFault::NotRead(refusal) => write!(f, "{refusal}"),
-            LineFault::ShortBuffer => write!(f, "the buffer for the answer has fewer than 96 bytes"),
+            LineFault::ShortBuffer => write!(
+                f,
+                "the buffer for the answer has fewer than 96 bytes"
+            ),
         }
     }
 }

@@ -6,9 +6,9 @@ ghost use Rattle.answers.specs.Texts.{answer_text, AllOneLine, Longest, OneLine,
 ghost use Rattle.answers.specs.Written.{Added, Begins, Replied};
 
 use crate::faults::LineFault;
+use calls::call::Reply;
 use house::answers::Settlement;
 use itoa::{Buffer, Integer};
-use calls::call::Reply;
 
 /// A buffer of so many bytes has room for every answer.
 pub const ROOM: usize = 96;

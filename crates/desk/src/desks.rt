@@ -12,12 +12,12 @@ use answers::writing::{ROOM, write_answer};
 use book::books::Reusable;
 use book::days::Day;
 use book::lawful::LawfulDay;
+use calls::call::{Call, Reply};
+use calls::performing::perform;
 use house::houses::House;
 use ladders::sets::EvenSet;
 use lines::line_calls::LineCall;
 use lines::parsing::parse;
-use calls::call::{Call, Reply};
-use calls::performing::perform;
 
 /// What answers the lines of one day. No house stands before a day line. The desk has no book: one is lent with each line, and the
 /// day line begins it anew.

@@ -8,6 +8,7 @@ mod tests {
     use book::days::Day;
     use book::entries::{Entry, Kind};
     use book::lawful::LawfulDay;
+    use calls::call::Call;
     use house::answers::Settlement;
     use house::faults::HouseFault;
     use house::houses::House;
@@ -17,7 +18,6 @@ mod tests {
     use ladders::sets::{EvenSet, SteppedSet};
     use rows::places::{Edition, Marks};
     use rows::steps::Step;
-    use calls::call::Call;
     use runs::comparing::{Answers, Run, compare, compare_makes};
     use std::test::Fail;
     use tape::tapes::{BLANK, Tape};
@@ -67,7 +67,7 @@ mod tests {
         }
     }
 
-    fn settled(price: i64, step: Step, place: u8) -> Result<Settlement, HouseFault> {
+    fn settlement(price: i64, step: Step, place: u8) -> Result<Settlement, HouseFault> {
         Ok(Settlement { price, step, place })
     }
 
@@ -115,7 +115,7 @@ mod tests {
             CLOSE,
         ];
         let (first, second) = both(&calls, &other_calls, 0)?;
-        assert_eq!(rt; first, settled(50, Step::Trade, 2));
+        assert_eq!(rt; first, settlement(50, Step::Trade, 2));
         assert_eq!(rt; second, first);
         Ok(())
     }
@@ -126,8 +126,8 @@ mod tests {
         let calls = [list(9, None), list(8, Some(0)), theory(104), OPEN, CLOSE];
         let other_calls = [list(9, None), list(8, Some(0)), OPEN, theory(105), CLOSE];
         let (first, second) = both(&calls, &other_calls, 1)?;
-        assert_eq!(rt; first, settled(100, Step::Copy, 1));
-        assert_eq!(rt; second, settled(110, Step::Copy, 1));
+        assert_eq!(rt; first, settlement(100, Step::Copy, 1));
+        assert_eq!(rt; second, settlement(110, Step::Copy, 1));
         Ok(())
     }
 
@@ -146,8 +146,8 @@ mod tests {
         let calls = [list(10, None), OPEN, quote(120), trade(0, 90), CLOSE];
         let other_calls = [list(10, None), OPEN, quote(130), trade(0, 110), CLOSE];
         let (first, second) = both(&calls, &other_calls, 0)?;
-        assert_eq!(rt; first, settled(110, Step::Quote, 2));
-        assert_eq!(rt; second, settled(120, Step::Quote, 2));
+        assert_eq!(rt; first, settlement(110, Step::Quote, 2));
+        assert_eq!(rt; second, settlement(120, Step::Quote, 2));
         Ok(())
     }
 
@@ -165,8 +165,8 @@ mod tests {
             CLOSE,
         ];
         let (first, second) = both(&calls, &other_calls, 0)?;
-        assert_eq!(rt; first, settled(50, Step::Trade, 3));
-        assert_eq!(rt; second, settled(80, Step::Auction, 1));
+        assert_eq!(rt; first, settlement(50, Step::Trade, 3));
+        assert_eq!(rt; second, settlement(80, Step::Auction, 1));
         Ok(())
     }
 
@@ -177,12 +177,12 @@ mod tests {
         let calls = [list(1, None), theory(100), OPEN, CLOSE];
         let other_calls = [list(1, None), theory(100), OPEN, auction, CLOSE];
         let (first, second) = both(&calls, &other_calls, 0)?;
-        assert_eq!(rt; first, settled(100, Step::Theory, 3));
-        assert_eq!(rt; second, settled(80, Step::Auction, 1));
+        assert_eq!(rt; first, settlement(100, Step::Theory, 3));
+        assert_eq!(rt; second, settlement(80, Step::Auction, 1));
         Ok(())
     }
 
-    // What was lent to the runs can be asked again and called further: the second house is still trading, on two trades.
+    // A house and a book that were lent to a run take further calls: the second house is still trading, on two trades.
     #[test]
     fn houses_and_books_hold_the_end_of_their_runs(rt: HostRuntime) -> Result<(), Fail> {
         let day = LawfulDay::new(DAY)?;
@@ -204,13 +204,13 @@ mod tests {
             calls: &other_calls,
         };
         let (one, two) = compare(first, second, 0, Edition::Close);
-        assert_eq!(rt; one, settled(50, Step::Trade, 2));
+        assert_eq!(rt; one, settlement(50, Step::Trade, 2));
         assert_eq!(rt; two, Err(HouseFault::WrongPhase));
         assert_eq!(rt; house.settle(&board, 0, Edition::Close), one);
         assert_eq!(rt; (board.count(), tape.count()), (1, 2));
         assert_eq!(rt; other.ring(Bell::Close), Ok(()));
         let later = other.settle(&tape, 0, Edition::Close);
-        assert_eq!(rt; later, settled(60, Step::Trade, 2));
+        assert_eq!(rt; later, settlement(60, Step::Trade, 2));
         Ok(())
     }
 
