@@ -17,14 +17,15 @@ left reader = left_at reader.line.now reader.at
 abbrev pub left_start : Reader → ℕ
 left_start reader = reader.at + 1
 
--- the first field that is left is handed out at its place; or none is left, and the place is the line's length, one before a
--- next field would begin
+-- the first field that is left is handed out at its place; or none is left, nothing moves, and the place is the line's length,
+-- one before a next field would begin
 abbrev pub NextField : Reader → Result Field NotRead → Reader → Type 0
 NextField old (Ok f) new =
     (left old ≡ f.bytes.now ∷ left new) × (f.start ≡ left_start old) × (left_start new ≡ f.start + (length f.bytes.now + 1))
-NextField old (Err e) new = (left old ≡ []) × (e.place ≡ length (line_of old)) × (e.place + 1 ≡ left_start old)
+NextField old (Err e) new =
+    (left old ≡ []) × (e.place ≡ length (line_of old)) × (e.place + 1 ≡ left_start old) × (left_start new ≡ left_start old)
 
--- no field is left; or some is, and the place is one before it
+-- no field is left; or one is too many, and the place is one before it, where the field that was handed out last ends
 abbrev pub Ended : Reader → Result Unit NotRead → Type 0
 Ended reader (Ok u) = left reader ≡ []
 Ended reader (Err e) = (left reader ≢ []) × (e.place + 1 ≡ left_start reader)

@@ -30,7 +30,8 @@ impl Field<'_> {
     }
 }
 
-/// A line of at most 200 bytes, of which the fields up to some place were handed out.
+/// A line of at most 200 bytes, of which the fields up to some place were handed out. It keeps the whole line, since a refusal
+/// tells a place in it.
 #[derive(Drop)]
 pub struct Reader<'a> {
     line: &'a [u8],

@@ -27,7 +27,8 @@ pub trait FromField: Sized {
     ghost sampled: { lawful sample };
 }
 
-// What a field says where a number may be missing: `Some(None)` is a minus alone.
+// The number that the field is the writing of, or `Some(None)` where it is a minus alone: a number is missing there. `None` is
+// for a field that is neither.
 fn number_or_missing(field: &[u8]) -> Option<Option<i64>>
     ensures { FieldBy signed_if BriefIf field.now result }
 {
@@ -52,7 +53,7 @@ impl FromField for i64 {
 
     ghost sampled = { Prim.search rules };
 
-    // A missing number is none.
+    // A minus alone is no number.
     fn from_field(field: &[u8]) -> Option<i64> {
         number_or_missing(field).flatten()
     }
