@@ -1,12 +1,13 @@
 // Cases of the house, worked out by hand from the rules. A line of input that begins with `# ` is the title of a case; the lines
-// after it, up to the next title, are one whole input. Each is answered by a desk over a board and by one over a tape; the answers
-// are written below the title, and have to be the same.
+// after it, up to the next title, are one whole input. Each is answered by a desk over a board, by one over a tape, and by the
+// second settlement; the answers are written below the title, and have to be the same.
 #![tactic(auto)]
 
 use anyhow::anyhow;
 use board::boards::Board;
 use book::books::Reusable;
 use book::lawful::LawfulDay;
+use second::seconds::Second;
 use std::io;
 use std::io::Write;
 use stream::serving::serve;
@@ -32,26 +33,42 @@ fn written<B: Reusable>(rt: &HostRuntime, book: &mut B, input: &[u8]) -> anyhow:
     Ok(output)
 }
 
-/// What is written of an input by way of a board and of a tape of so many places, which are at most `PLACES`; an error if the
-/// two differ.
-fn written_by_both(rt: &HostRuntime, places: usize, input: &[u8]) -> anyhow::Result<Vec<u8>> {
+/// What the second settlement answers to the lines of an input.
+fn written_by_second(rt: &HostRuntime, places: usize, lines: &str) -> anyhow::Result<Vec<u8>> {
+    let mut second = Second::new(rt.alloc(), places);
+    let mut output = Vec::new(rt.alloc());
+    for line in lines.lines() {
+        let answer = second.answer(line.as_bytes())?;
+        output.extend_from_slice(answer.as_bytes())?;
+        output.push(b'\n')?;
+    }
+    Ok(output)
+}
+
+/// What is written of an input by way of a board and of a tape of so many places, which are at most `PLACES`, and by the second
+/// settlement; an error if two differ.
+fn written_by_all(rt: &HostRuntime, places: usize, lines: &str) -> anyhow::Result<Vec<u8>> {
     let places = places.min(PLACES);
     let mut board = Board::new(LawfulDay::least(), places);
     let mut slots = [BLANK; PLACES];
     let mut tape = Tape::new(LawfulDay::least(), &mut slots[..places]);
-    let one = written(rt, &mut board, input)?;
-    let other = written(rt, &mut tape, input)?;
-    if one != other {
+    let by_board = written(rt, &mut board, lines.as_bytes())?;
+    let by_tape = written(rt, &mut tape, lines.as_bytes())?;
+    let by_second = written_by_second(rt, places, lines)?;
+    if by_board != by_tape {
         return Err(anyhow!("the board and the tape differ"));
     }
-    Ok(one)
+    if by_board != by_second {
+        return Err(anyhow!("the second settlement differs"));
+    }
+    Ok(by_board)
 }
 
 /// Writes the title of a case and the answers to its lines.
 fn answer_case(rt: &HostRuntime, case: &str) -> anyhow::Result<()> {
     let (title, lines) = case.split_once('\n').unwrap_or((case, ""));
     println!(rt; "# {title}")?;
-    let answers = written_by_both(rt, places_of(title), lines.as_bytes())?;
+    let answers = written_by_all(rt, places_of(title), lines)?;
     io::writer(rt).write_all(&answers)?;
     Ok(())
 }

@@ -41,35 +41,3 @@ impl Fraction {
         i64::try_from(if up <= down { upper } else { lower }).ok()
     }
 }
-
-#[cfg(test)]
-mod tests {
-    use super::*;
-
-    #[test]
-    fn worked_prices(rt: HostRuntime) {
-        assert_eq!(rt;
-            Fraction::whole(38_514_999).nearest(10_000),
-            Some(38_510_000)
-        );
-        assert_eq!(rt; Fraction::whole(-15).nearest(10), Some(-10));
-        assert_eq!(rt; Fraction::whole(-16).nearest(10), Some(-20));
-        assert_eq!(rt; Fraction::whole(101).above(10), Some(110));
-        assert_eq!(rt; Fraction::whole(-101).above(10), Some(-100));
-        let middle = Fraction {
-            over: 100 + 130,
-            under: 2,
-        };
-        assert_eq!(rt; middle.nearest(10), Some(120));
-        let average = Fraction {
-            over: 900,
-            under: 5,
-        };
-        assert_eq!(rt; average.nearest(10), Some(180));
-    }
-
-    #[test]
-    fn no_lots(rt: HostRuntime) {
-        assert_eq!(rt; Fraction { over: 0, under: 0 }.nearest(10), None);
-    }
-}
