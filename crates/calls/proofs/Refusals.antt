@@ -29,16 +29,19 @@ stays (Ok a) move s h = absurd (true≢false h)
 stays (Err f) move s h = refl
 
 -- a refused call leaves the house and the book as they were
-pub refused_stays : (ladders : ℕ) (lawful : ℕ → ℤ → Bool) (c : Call) (w : World) → is_taken ladders lawful c w ≡ false → next ladders lawful c w ≡ w
+pub refused_stays : (ladders : ℕ) (lawful : ℕ → ℤ → Bool) (c : Call) (w : World) → is_taken ladders lawful c w ≡ false
+    → next ladders lawful c w ≡ w
 refused_stays ladders lawful (ListCall t) w h =
     let r = listed_terms ladders t w.state in
     ap (λ (s : State). record { state = s; book = w.book }) (stays r _ w.state (sym (listed_ok w.state.roll.count r) ∙ h))
 refused_stays ladders lawful (Ring b) w h =
     let r = rung w.state.phase b in
-    ap (λ (s : State). record { state = s; book = w.book }) (stays r _ w.state (sym (ok_with_ok tt r) ∙ sym (ok_with_ok _ (ok_with tt r)) ∙ h))
+    ap (λ (s : State). record { state = s; book = w.book })
+    (stays r _ w.state (sym (ok_with_ok tt r) ∙ sym (ok_with_ok _ (ok_with tt r)) ∙ h))
 refused_stays ladders lawful (Enter e) w h =
     let r = entry_answer lawful w.book e w.state in
-    ap (λ (m : Ledger). record { state = w.state; book = m }) (stays r (λ _. with_taken w.book e) w.book (sym (ok_with_ok _ r) ∙ h))
+    ap (λ (m : Ledger). record { state = w.state; book = m })
+    (stays r (λ _. with_taken w.book e) w.book (sym (ok_with_ok _ r) ∙ h))
 refused_stays ladders lawful (SetTheory n value) w h =
     let r = theory_answer n value w.state in
     ap (λ (s : State). record { state = s; book = w.book }) (stays r _ w.state (sym (ok_with_ok _ r) ∙ h))

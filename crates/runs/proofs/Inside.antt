@@ -26,7 +26,8 @@ middle_inside b a h k =
 
 within_lots : (m : ℤ) (d : ℕ) → nat_abs m ≤ d * 1000000000 → inside m d ≡ ltb 0 d
 within_lots m d h =
-    ap (λ t. ltb 0 d && t) (and_from (le_z (negsuc 999999999 *ℤ pos d) m) (le_z m (pos 1000000000 *ℤ pos d)) (grind (arith, ints)) (grind (arith, ints)))
+    ap (λ t. ltb 0 d && t)
+    (and_from (le_z (negsuc 999999999 *ℤ pos d) m) (le_z m (pos 1000000000 *ℤ pos d)) (grind (arith, ints)) (grind (arith, ints)))
     ∙ and-true (ltb 0 d)
 
 -- there is an average wherever there are lots

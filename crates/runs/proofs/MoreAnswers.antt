@@ -44,7 +44,8 @@ some_nearest P n d = by (inside n d)
 average_more : (P : ℤ → Bool) (k l : ℕ) (v w : Values) → bounded k v ≡ true → bounded l w ≡ true → v.lots ≤ℤ w.lots
     → StillThere (average P v.money v.lots) (average P w.money w.lots)
 average_more P k l v w h m more there =
-    let some = ltb-true 0 (nat_abs v.lots) (sym (average_inside k v h) ∙ (sym (some_nearest P v.money (nat_abs v.lots)) ∙ there)) in
+    let some = ltb-true 0 (nat_abs v.lots)
+    (sym (average_inside k v h) ∙ (sym (some_nearest P v.money (nat_abs v.lots)) ∙ there)) in
     let none_negative = (parts k v h).lots_from in
     some_nearest P w.money (nat_abs w.lots) ∙ (average_inside l w m ∙ lt-ltb 0 (nat_abs w.lots) (omega (arith, ints)))
 
@@ -60,12 +61,15 @@ finds_more : (P : ℤ → Bool) (r q : Option ℤ) (s : Series) (v w : Values) (
     → StillThere r q → ValuesMore v w → (step : Step) → StillThere (finds P r s v step) (finds P q s w step)
 finds_more P r q s v w k l lv lw reference more Auction = more.auction
 finds_more P r q s v w k l lv lw reference more Trade = more.trade
-finds_more P r q s v w k l lv lw reference more Quote = subst (λ (o : Bool). is_some (quoted P v.quote) ≡ true → o ≡ true) (ap (λ o. is_some (quoted P o)) more.quote) (λ there. there)
+finds_more P r q s v w k l lv lw reference more Quote =
+    subst (λ (o : Bool). is_some (quoted P v.quote) ≡ true → o ≡ true) (ap (λ o. is_some (quoted P o)) more.quote)
+    (λ there. there)
 finds_more P r q s v w k l lv lw reference more Average = average_more P k l v w lv lw more.lots
 finds_more P r q s v w k l lv lw reference more Theory = λ there. there
 finds_more P r q s v w k l lv lw reference more TheoryUp = λ there. there
 finds_more P r q s v w k l lv lw reference more Spread = less_more r q v.spread w.spread reference more.spread
-finds_more P r q s v w k l lv lw reference more PreviousSpread = less_more r q s.terms.previous_spread s.terms.previous_spread reference (λ there. there)
+finds_more P r q s v w k l lv lw reference more PreviousSpread =
+    less_more r q s.terms.previous_spread s.terms.previous_spread reference (λ there. there)
 finds_more P r q s v w k l lv lw reference more Copy = reference
 finds_more P r q s v w k l lv lw reference more Previous = λ there. there
 finds_more P r q s v w k l lv lw reference more Ruling = λ there. there
@@ -94,7 +98,8 @@ first_from f j k (p ∷ ps) h = by (f p) (first_from f j (k + 1) ps (omega arith
 first_more : (f g : Place → Option ℤ) → ((p : Place) → StillThere (f p) (g p)) → (k : ℕ) (ps : List Place)
     → FoundNoLater (first_found f k ps) (first_found g k ps)
 first_more f g more k [] = tt
-first_more f g more k (p ∷ ps) = by (f p) (g p) (first_found f (k + 1) ps) (more p) (first_more f g more (k + 1) ps) (first_from f k (k + 1) ps (omega arith))
+first_more f g more k (p ∷ ps) =
+    by (f p) (g p) (first_found f (k + 1) ps) (more p) (first_more f g more (k + 1) ps) (first_from f k (k + 1) ps (omega arith))
   where
     by : (v w : Option ℤ) (s : Option Settlement) → StillThere v w → FoundNoLater s (first_found g (k + 1) ps) → From k s
         → FoundNoLater (or_later v p.step k s) (or_later w p.step k (first_found g (k + 1) ps))
@@ -132,20 +137,24 @@ module _ (P : ℕ → ℤ → Bool) (ed : Edition) where
   found_more x y r q (lx, ly, more) reference p =
       let w = window_number p.window in
       subst (λ (s : Series). StillThere (found P r x p) (finds (P s.terms.ladder) q s (y.figures w) p.step)) more.series
-      (finds_more (P x.series.terms.ladder) r q x.series (x.figures w) (y.figures w) (lx.figures w).0 (ly.figures w).0 (lx.figures w).1 (ly.figures w).1 reference (more.figures w) p.step)
+      (finds_more (P x.series.terms.ladder) r q x.series (x.figures w) (y.figures w) (lx.figures w).0 (ly.figures w).0
+      (lx.figures w).1 (ly.figures w).1 reference (more.figures w) p.step)
 
   answered_more : (x y : Station) (u v : Option Answer) → LawfulPair StationMore x y → Matched NoLater u v
       → NoLater (answered P ed x u) (answered P ed y v)
   answered_more x y u v pair h =
       let f = found P (price_of u) x in
       let g = found P (price_of v) y in
-      subst (λ (s : Series). NoLater (answered P ed x u) (ruled_first s.ruling (or_refused (first_found g 1 (row_of s ed)) (origin ed y v)))) pair.2.series
+      subst (λ (s : Series). NoLater (answered P ed x u)
+      (ruled_first s.ruling (or_refused (first_found g 1 (row_of s ed)) (origin ed y v)))) pair.2.series
       (ruled_first_more x.series.ruling (by_row P ed x u) (or_refused (first_found g 1 (row_of x.series ed)) (origin ed y v))
-      (or_refused_more (first_found f 1 (row_of x.series ed)) (first_found g 1 (row_of x.series ed)) (origin ed x u) (origin ed y v)
+      (or_refused_more (first_found f 1 (row_of x.series ed)) (first_found g 1 (row_of x.series ed)) (origin ed x u)
+      (origin ed y v)
       (first_more f g (found_more x y (price_of u) (price_of v) pair (price_more u v h)) 1 (row_of x.series ed))))
 
   -- where stations settle, stations with more figures settle too, at no later a place
   pub more_answers : (x y : Station) (xs ys : List Station) → AllByRecursion StationLawful (x ∷ xs)
       → AllByRecursion StationLawful (y ∷ ys) → AllZip StationMore (x ∷ xs) (y ∷ ys)
       → NoLater (path_answer P ed x xs) (path_answer P ed y ys)
-  more_answers x y xs ys l m more = along P ed (LawfulPair StationMore) NoLater answered_more x y xs ys (lawful_pairs StationMore (x ∷ xs) (y ∷ ys) l m more)
+  more_answers x y xs ys l m more =
+      along P ed (LawfulPair StationMore) NoLater answered_more x y xs ys (lawful_pairs StationMore (x ∷ xs) (y ∷ ys) l m more)

@@ -59,23 +59,30 @@ entries_same : (xs : List Call) (c : Call) → entries_in c ≡ [] → entries (
 entries_same xs c none = entries_push xs c ∙ ap (λ es. entries xs ++ es) none ∙ append-nil (entries xs)
 
 -- from its parts
-series_after_as : (xs : List Call) (c : Call) (n : ℕ) (t : Terms) (o : Option ℤ) (q : Option Ruling) → get_or (terms_listed (xs ++ (c ∷ []))) n blank.terms ≡ t → theory_left n (last_theory n xs) c ≡ o → ruling_left n (last_ruling n xs) c ≡ q → series_after (xs ++ (c ∷ [])) n ≡ record { terms = t; theory = o; ruling = q }
+series_after_as : (xs : List Call) (c : Call) (n : ℕ) (t : Terms) (o : Option ℤ) (q : Option Ruling)
+    → get_or (terms_listed (xs ++ (c ∷ []))) n blank.terms ≡ t → theory_left n (last_theory n xs) c ≡ o
+    → ruling_left n (last_ruling n xs) c ≡ q → series_after (xs ++ (c ∷ [])) n ≡ record { terms = t; theory = o; ruling = q }
 series_after_as xs c n t o q terms theory ruling =
     let supplied = fold_push (theory_left n) None xs c ∙ theory in
     let ruled = fold_push (ruling_left n) None xs c ∙ ruling in
     λ i. record { terms = terms i; theory = supplied i; ruling = ruled i }
 
 -- after a call that lists nothing
-series_after_with : (xs : List Call) (c : Call) (n : ℕ) (o : Option ℤ) (q : Option Ruling) → terms_in c ≡ [] → theory_left n (last_theory n xs) c ≡ o → ruling_left n (last_ruling n xs) c ≡ q → series_after (xs ++ (c ∷ [])) n ≡ record { terms = (series_after xs n).terms; theory = o; ruling = q }
+series_after_with : (xs : List Call) (c : Call) (n : ℕ) (o : Option ℤ) (q : Option Ruling) → terms_in c ≡ []
+    → theory_left n (last_theory n xs) c ≡ o → ruling_left n (last_ruling n xs) c ≡ q
+    → series_after (xs ++ (c ∷ [])) n ≡ record { terms = (series_after xs n).terms; theory = o; ruling = q }
 series_after_with xs c n o q none theory ruling =
-    series_after_as xs c n (series_after xs n).terms o q (ap (λ ts. get_or ts n blank.terms) (terms_listed_same xs c none)) theory ruling
+    series_after_as xs c n (series_after xs n).terms o q
+    (ap (λ ts. get_or ts n blank.terms) (terms_listed_same xs c none)) theory ruling
 
 -- ---- a call that leaves the series, or the book
 
 roll_stays : (xs : List Call) (c : Call) (r : Roll) → terms_in c ≡ [] → ((n : ℕ) (o : Option ℤ) → theory_left n o c ≡ o)
     → ((n : ℕ) (q : Option Ruling) → ruling_left n q c ≡ q) → RollTold xs r → RollTold (xs ++ (c ∷ [])) r
 roll_stays xs c r none theory ruling t = record {
-  series = λ n. t.series n ∙ sym (series_after_with xs c n (last_theory n xs) (last_ruling n xs) none (theory n (last_theory n xs)) (ruling n (last_ruling n xs)));
+  series = λ n. t.series n
+      ∙ sym (series_after_with xs c n (last_theory n xs) (last_ruling n xs) none (theory n (last_theory n xs))
+      (ruling n (last_ruling n xs)));
   count = t.count ∙ sym (ap length (terms_listed_same xs c none));
   lawful = t.lawful;
   unused = t.unused;
@@ -150,7 +157,8 @@ roll_listed xs l r lawful t = record {
         ∙ t.series n
         ∙ sym
         (series_after_as xs (ListCall l) n (series_after xs n).terms (last_theory n xs) (last_ruling n xs)
-        (ap (λ ts. get_or ts n blank.terms) more ∙ get_or_push_other (terms_listed xs) terms blank.terms n (λ e. o (e ∙ sym t.count)))
+        (ap (λ ts. get_or ts n blank.terms) more ∙ get_or_push_other (terms_listed xs) terms blank.terms n
+        (λ e. o (e ∙ sym t.count)))
         refl
         refl)
 
@@ -161,14 +169,17 @@ listed_named ladders l s =
     listed_have (λ (terms : Terms). terms ≡ terms_by (family_of l.family) l) ladders l s
     (λ f is _ _. ap (λ o. terms_by o l) (sym is))
 
-told_listing : (ladders : ℕ) (xs : List Call) (l : Listing) (s : State) → is_ok (listed_terms ladders l s) ≡ true → RollTold xs s.roll → RollTold (xs ++ (ListCall l ∷ [])) (moved (listed_terms ladders l s) (λ terms. record { phase = s.phase; roll = with_listed terms s.roll }) s).roll
+told_listing : (ladders : ℕ) (xs : List Call) (l : Listing) (s : State) → is_ok (listed_terms ladders l s) ≡ true
+    → RollTold xs s.roll → RollTold (xs ++ (ListCall l ∷ [])) (moved (listed_terms ladders l s) (λ terms. record { phase = s.phase; roll = with_listed terms s.roll }) s).roll
 told_listing ladders xs l s ok t =
     let f = found (listed_terms ladders l s) ok in
     let is : f.0 ≡ terms_by (family_of l.family) l =
-    subst (λ (r : Result Terms HouseFault). IfOk r (λ (terms : Terms). terms ≡ terms_by (family_of l.family) l)) f.1 (listed_named ladders l s)
+    subst (λ (r : Result Terms HouseFault). IfOk r (λ (terms : Terms). terms ≡ terms_by (family_of l.family) l)) f.1
+    (listed_named ladders l s)
     in
     let here : Admitted s.roll.count (Ok f.0) = subst (Admitted s.roll.count) f.1 (listed_lawful ladders l s) in
-    subst (λ (r : Result Terms HouseFault). RollTold (xs ++ (ListCall l ∷ [])) (moved r (λ terms. record { phase = s.phase; roll = with_listed terms s.roll }) s).roll) (sym (f.1 ∙ ap Ok is))
+    subst (λ (r : Result Terms HouseFault). RollTold (xs ++ (ListCall l ∷ []))
+    (moved r (λ terms. record { phase = s.phase; roll = with_listed terms s.roll }) s).roll) (sym (f.1 ∙ ap Ok is))
     (roll_listed xs l s.roll (ap (λ terms. lawful_series s.roll.count (new_series terms)) (sym is) ∙ here.1) t)
 
 -- ---- supplied values
@@ -187,14 +198,16 @@ roll_changed : (xs : List Call) (c : Call) (r : Roll) (k : ℕ) (s : Series) →
     → ((n : ℕ) → (n ≡ k → ⊥) → series_after (xs ++ (c ∷ [])) n ≡ series_after xs n) → RollTold xs r
     → RollTold (xs ++ (c ∷ [])) (changed k s r)
 roll_changed xs c r k s none few lawful here others t = record {
-  series = λ n. ⊎_elim (λ e. placed_at k s r.series n e ∙ here ∙ ap (series_after (xs ++ (c ∷ []))) (sym e)) (λ o. placed_off k s r.series n o ∙ t.series n ∙ sym (others n o)) (cases_eq n k);
+  series = λ n. ⊎_elim (λ e. placed_at k s r.series n e ∙ here ∙ ap (series_after (xs ++ (c ∷ []))) (sym e))
+      (λ o. placed_off k s r.series n o ∙ t.series n ∙ sym (others n o)) (cases_eq n k);
   count = t.count ∙ sym (ap length (terms_listed_same xs c none));
   lawful = placed_lawful k s r.series lawful t.lawful;
   unused = λ n h. placed_off k s r.series n (λ e. omega arith) ∙ t.unused n h;
 }
 
 -- both demands on a supplied value were met
-both_met : (a b : Bool) (f g : HouseFault) → is_ok (demand {A = Unit {0}} a f (demand b g (Ok tt))) ≡ true → (a ≡ true) × (b ≡ true)
+both_met : (a b : Bool) (f g : HouseFault) → is_ok (demand {A = Unit {0}} a f (demand b g (Ok tt))) ≡ true
+    → (a ≡ true) × (b ≡ true)
 both_met true true f g h = (refl, refl)
 both_met true false f g h = absurd (true≢false (sym h))
 both_met false b f g h = absurd (true≢false (sym h))
@@ -209,11 +222,15 @@ told_theory xs z value s ok t =
     let met = both_met (is_listed r.count z) (side_lawful value) NoSuchSeries SuppliedBeyondLimits ok in
     let number = listed_number r.count z met.0 in
     let f = found (theory_answer z value s) ok in
-    subst (λ (a : Result Unit HouseFault). RollTold (xs ++ (c ∷ [])) (moved a (λ _. record { phase = s.phase; roll = changed k (with_theory value x) r }) s).roll) (sym f.1)
+    subst (λ (a : Result Unit HouseFault). RollTold (xs ++ (c ∷ []))
+    (moved a (λ _. record { phase = s.phase; roll = changed k (with_theory value x) r }) s).roll) (sym f.1)
     (roll_changed xs c r k (with_theory value x) refl number.0
     (lawful_theory k x value (t.lawful k) met.1)
-    (ap (with_theory value) (t.series k) ∙ sym (series_after_with xs c k value (last_ruling k xs) refl (cond-true (is_series k z) value (last_theory k xs) number.1) refl))
-    (λ n o. series_after_with xs c n (last_theory n xs) (last_ruling n xs) refl (cond-false (is_series n z) value (last_theory n xs) (other_number z n o)) refl)
+    (ap (with_theory value) (t.series k)
+    ∙ sym (series_after_with xs c k value (last_ruling k xs) refl
+    (cond-true (is_series k z) value (last_theory k xs) number.1) refl))
+    (λ n o. series_after_with xs c n (last_theory n xs) (last_ruling n xs) refl
+    (cond-false (is_series n z) value (last_theory n xs) (other_number z n o)) refl)
     t)
 
 ruling_lawful : (value : Option ℤ) (first : Bool) → may_rule value first ≡ true → lawful_ruling (ruling_of value first) ≡ true
@@ -232,11 +249,15 @@ told_ruling xs z value first s ok t =
     let met = both_met (is_listed r.count z) (may_rule value first) NoSuchSeries SuppliedBeyondLimits ok in
     let number = listed_number r.count z met.0 in
     let f = found (ruling_answer z value first s) ok in
-    subst (λ (a : Result Unit HouseFault). RollTold (xs ++ (c ∷ [])) (moved a (λ _. record { phase = s.phase; roll = changed k (with_ruling ruling x) r }) s).roll) (sym f.1)
+    subst (λ (a : Result Unit HouseFault). RollTold (xs ++ (c ∷ []))
+    (moved a (λ _. record { phase = s.phase; roll = changed k (with_ruling ruling x) r }) s).roll) (sym f.1)
     (roll_changed xs c r k (with_ruling ruling x) refl number.0
     (lawful_ruled k x ruling (t.lawful k) (ruling_lawful value first met.1))
-    (ap (with_ruling ruling) (t.series k) ∙ sym (series_after_with xs c k (last_theory k xs) ruling refl refl (cond-true (is_series k z) ruling (last_ruling k xs) number.1)))
-    (λ n o. series_after_with xs c n (last_theory n xs) (last_ruling n xs) refl refl (cond-false (is_series n z) ruling (last_ruling n xs) (other_number z n o)))
+    (ap (with_ruling ruling) (t.series k)
+    ∙ sym (series_after_with xs c k (last_theory k xs) ruling refl refl
+    (cond-true (is_series k z) ruling (last_ruling k xs) number.1)))
+    (λ n o. series_after_with xs c n (last_theory n xs) (last_ruling n xs) refl refl
+    (cond-false (is_series n z) ruling (last_ruling n xs) (other_number z n o)))
     t)
 
 -- ---- bells
@@ -257,7 +278,8 @@ phase_stays xs c r move s none same is = by r ∙ phase_kept xs c s.phase none i
     by (Err f) = refl
 
 -- a bell that was taken tells the phase
-phase_rung : (p : Phase) (b : Bell) (s : State) → is_ok (rung p b) ≡ true → (moved (rung p b) (λ q. record { phase = q; roll = s.roll }) s).phase ≡ phase_by b
+phase_rung : (p : Phase) (b : Bell) (s : State) → is_ok (rung p b) ≡ true
+    → (moved (rung p b) (λ q. record { phase = q; roll = s.roll }) s).phase ≡ phase_by b
 phase_rung phases.Listing bells.Open s ok = refl
 phase_rung phases.Listing bells.Close s ok = absurd (true≢false (sym ok))
 phase_rung phases.Trading bells.Open s ok = absurd (true≢false (sym ok))
@@ -296,7 +318,8 @@ told_entry d k lawful xs e s m ok t =
           ∙ ap (λ l. with_taken l e) t.records
           ∙ sym (recorded_push d k (entries xs) e)
           ∙ ap (recorded d k) (sym more);
-      lawful = ap (every (allowed d)) more ∙ every_push (allowed d) (entries xs) e t.lawful (ap (λ y. allowed y e) (sym day) ∙ taken.lawful);
+      lawful = ap (every (allowed d)) more ∙ every_push (allowed d) (entries xs) e t.lawful
+          (ap (λ y. allowed y e) (sym day) ∙ taken.lawful);
       room = subst (λ es. length es ≤ k) (sym more) few;
     }
 
@@ -312,8 +335,10 @@ told_call d k ladders lawful xs (ListCall l) w ok t = record {
 told_call d k ladders lawful xs (Ring b) w ok t = record {
   phase =
       let r = rung w.state.phase b in
-      phase_rung w.state.phase b w.state (sym (ok_with_ok tt r) ∙ sym (ok_with_ok _ (ok_with tt r)) ∙ ok) ∙ sym (fold_push phase_left phases.Listing xs (Ring b));
-  roll = subst (RollTold (xs ++ (Ring b ∷ []))) (sym (bell_leaves (rung w.state.phase b) w.state)) (roll_stays xs (Ring b) w.state.roll refl (λ n o. refl) (λ n q. refl) t.roll);
+      phase_rung w.state.phase b w.state (sym (ok_with_ok tt r) ∙ sym (ok_with_ok _ (ok_with tt r)) ∙ ok)
+      ∙ sym (fold_push phase_left phases.Listing xs (Ring b));
+  roll = subst (RollTold (xs ++ (Ring b ∷ []))) (sym (bell_leaves (rung w.state.phase b) w.state))
+      (roll_stays xs (Ring b) w.state.roll refl (λ n o. refl) (λ n q. refl) t.roll);
   book = book_stays d k xs (Ring b) w.book refl t.book;
 }
 told_call d k ladders lawful xs (Enter e) w ok t = record {
@@ -327,7 +352,8 @@ told_call d k ladders lawful xs (SetTheory z value) w ok t = record {
   book = book_stays d k xs (SetTheory z value) w.book refl t.book;
 }
 told_call d k ladders lawful xs (SetRuling z value first) w ok t = record {
-  phase = phase_stays xs (SetRuling z value first) (ruling_answer z value first w.state) _ w.state (λ p. refl) (λ a. refl) t.phase;
+  phase = phase_stays xs (SetRuling z value first) (ruling_answer z value first w.state) _ w.state (λ p. refl)
+      (λ a. refl) t.phase;
   roll = told_ruling xs z value first w.state (sym (ok_with_ok _ (ruling_answer z value first w.state)) ∙ ok) t.roll;
   book = book_stays d k xs (SetRuling z value first) w.book refl t.book;
 }

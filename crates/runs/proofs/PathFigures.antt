@@ -20,7 +20,8 @@ kept_by_narrower wide narrow wider (x ∷ xs) =
     ∙ ap (λ ys. cond (narrow x) (x ∷ ys) ys) (kept_by_narrower wide narrow wider xs)
   where
     by : (b c : Bool) → narrow x ≡ c → (c ≡ true → b ≡ true)
-        → filter narrow (cond b (x ∷ filter wide xs) (filter wide xs)) ≡ cond c (x ∷ filter narrow (filter wide xs)) (filter narrow (filter wide xs))
+        → filter narrow (cond b (x ∷ filter wide xs) (filter wide xs)) ≡ cond c (x ∷ filter narrow (filter wide xs))
+        (filter narrow (filter wide xs))
     by true c e h = ap (λ t. cond t (x ∷ filter narrow (filter wide xs)) (filter narrow (filter wide xs))) e
     by false true e h = absurd (true≢false (sym (h refl)))
     by false false e h = refl
@@ -37,7 +38,8 @@ path_figures d path es s w on =
     (kept_by_narrower
     (λ e. on_path path e.series && no_leg e.kind)
     (λ e. is_series s e.series && no_leg e.kind)
-    (λ e own. let both = and_parts (is_series s e.series) (no_leg e.kind) own in and_from (on_path path e.series) (no_leg e.kind) (series_on_path path s e.series on both.0) both.1)
+    (λ e own. let both = and_parts (is_series s e.series) (no_leg e.kind) own in and_from (on_path path e.series) (no_leg e.kind)
+    (series_on_path path s e.series on both.0) both.1)
     es)
 
 -- what relates the figures of these entries relates those of all entries

@@ -62,8 +62,10 @@ ruled_raised (Some r) (Some q) rise = rise.value
 module _ (P : ℤ → Bool) (near : (z : ℤ) → Near P z) where
   nearest_of_is : (n : ℤ) (d : ℕ) → 0 < d → Nearest P n d (nearest_of P n d)
   nearest_of_is n d h =
-      let closest = closer_is_nearest P n d (below_of P (floor n d)) (above_of P (ceiling n d)) h (below_of_is P near (floor n d)) (above_of_is P near (ceiling n d)) in
-      subst (Nearest P n d) (nearest_value P near n d (closer_of n d (below_of P (floor n d)) (above_of P (ceiling n d))) h closest) closest
+      let closest = closer_is_nearest P n d (below_of P (floor n d)) (above_of P (ceiling n d)) h (below_of_is P near (floor n d))
+      (above_of_is P near (ceiling n d)) in
+      subst (Nearest P n d)
+      (nearest_value P near n d (closer_of n d (below_of P (floor n d)) (above_of P (ceiling n d))) h closest) closest
 
   -- of two fractions over the same number, both inside the limit or both not
   nearest_raised : (n m : ℤ) (d : ℕ) → inside n d ≡ inside m d → n ≤ℤ m → ValueRaised (nearest_price P n d) (nearest_price P m d)
@@ -73,7 +75,8 @@ module _ (P : ℤ → Bool) (near : (z : ℤ) → Near P z) where
           → ValueRaised (cond b (Some (nearest_of P n d)) None) (cond c (Some (nearest_of P m d)) None)
       by true true e s =
           let some = (inside_range n d e).0 in
-          nearest_rises P P (λ z. refl) n m d d (nearest_of P n d) (nearest_of P m d) some some (nearest_of_is n d some) (nearest_of_is m d some) (times_rises n m d rise)
+          nearest_rises P P (λ z. refl) n m d d (nearest_of P n d) (nearest_of P m d) some some (nearest_of_is n d some)
+          (nearest_of_is m d some) (times_rises n m d rise)
       by true false e s = absurd (true≢false s)
       by false true e s = absurd (false≢true s)
       by false false e s = tt
@@ -124,7 +127,8 @@ module _ (P : ℤ → Bool) (near : (z : ℤ) → Near P z) where
     where
       by : (b c : Bool) → b ≡ true → c ≡ true
           → ValueRaised (cond b (Some (above_of P v)) None) (cond c (Some (above_of P w)) None)
-      by true true p q = above_rises P P (λ z. refl) v w (above_of P v) (above_of P w) (above_of_is P near v) (above_of_is P near w) rise
+      by true true p q =
+          above_rises P P (λ z. refl) v w (above_of P v) (above_of P w) (above_of_is P near v) (above_of_is P near w) rise
       by true false p q = absurd (false≢true q)
       by false c p q = absurd (false≢true p)
 
@@ -134,14 +138,18 @@ module _ (P : ℤ → Bool) (near : (z : ℤ) → Near P z) where
       → ValuesRaised v w → (step : Step) → ValueRaised (finds P r s v step) (finds P q t w step)
   finds_raised r q s t v w k l ls lt lv lw reference series values Auction = values.auction
   finds_raised r q s t v w k l ls lt lv lw reference series values Trade = values.trade
-  finds_raised r q s t v w k l ls lt lv lw reference series values Quote = quoted_raised v.quote w.quote (parts k v lv).quote (parts l w lw).quote values.quote
+  finds_raised r q s t v w k l ls lt lv lw reference series values Quote =
+      quoted_raised v.quote w.quote (parts k v lv).quote (parts l w lw).quote values.quote
   finds_raised r q s t v w k l ls lt lv lw reference series values Average = average_raised k l v w lv lw values
-  finds_raised r q s t v w k l ls lt lv lw reference series values Theory = nearest_theory_raised s.theory t.theory ls lt series.theory
-  finds_raised r q s t v w k l ls lt lv lw reference series values TheoryUp = above_theory_raised s.theory t.theory ls lt series.theory
+  finds_raised r q s t v w k l ls lt lv lw reference series values Theory =
+      nearest_theory_raised s.theory t.theory ls lt series.theory
+  finds_raised r q s t v w k l ls lt lv lw reference series values TheoryUp =
+      above_theory_raised s.theory t.theory ls lt series.theory
   finds_raised r q s t v w k l ls lt lv lw reference series values Spread =
       subst (λ (o : Option ℤ). ValueRaised (less r v.spread) (less q o)) values.spread (less_raised r q v.spread reference)
   finds_raised r q s t v w k l ls lt lv lw reference series values PreviousSpread =
-      subst (λ (o : Option ℤ). ValueRaised (less r s.terms.previous_spread) (less q o)) series.previous_spread (less_raised r q s.terms.previous_spread reference)
+      subst (λ (o : Option ℤ). ValueRaised (less r s.terms.previous_spread) (less q o)) series.previous_spread
+      (less_raised r q s.terms.previous_spread reference)
   finds_raised r q s t v w k l ls lt lv lw reference series values Copy = reference
   finds_raised r q s t v w k l ls lt lv lw reference series values Previous = series.previous_settlement
   finds_raised r q s t v w k l ls lt lv lw reference series values Ruling = ruled_raised s.ruling t.ruling series.ruling
@@ -157,7 +165,8 @@ first_raised f g rise k [] = tt
 first_raised f g rise k (p ∷ ps) = by (f p) (g p) (first_raised f g rise (k + 1) ps) (rise p)
   where
     by : (v w : Option ℤ) → Matched SettlementRaised (first_found f (k + 1) ps) (first_found g (k + 1) ps) → ValueRaised v w
-        → Matched SettlementRaised (or_later v p.step k (first_found f (k + 1) ps)) (or_later w p.step k (first_found g (k + 1) ps))
+        → Matched SettlementRaised (or_later v p.step k (first_found f (k + 1) ps))
+        (or_later w p.step k (first_found g (k + 1) ps))
     by None None later h = later
     by None (Some w) later h = absurd h
     by (Some v) None later h = absurd h
@@ -177,7 +186,8 @@ ruled_first_raised None (Some q) a b rise h = absurd rise
 ruled_first_raised (Some r) None a b rise h = absurd rise
 ruled_first_raised (Some r) (Some q) a b rise h = by r.first q.first rise.first
   where
-    by : (c d : Bool) → c ≡ d → NotLower (cond c (Ok (record { price = r.value; step = Ruling; place = 0 })) a) (cond d (Ok (record { price = q.value; step = Ruling; place = 0 })) b)
+    by : (c d : Bool) → c ≡ d
+        → NotLower (cond c (Ok (record { price = r.value; step = Ruling; place = 0 })) a) (cond d (Ok (record { price = q.value; step = Ruling; place = 0 })) b)
     by true true e = (refl, refl, rise.value)
     by true false e = absurd (true≢false e)
     by false true e = absurd (false≢true e)
@@ -214,8 +224,10 @@ module _ (P : ℕ → ℤ → Bool) (near : (n : ℕ) (z : ℤ) → Near (P n) z
   found_raised x y r q (lx, ly, rise) reference p =
       let w = window_number p.window in
       subst (λ (n : ℕ). ValueRaised (found P r x p) (finds (P n) q y.series (y.figures w) p.step)) rise.series.ladder
-      (finds_raised (P x.series.terms.ladder) (near x.series.terms.ladder) r q x.series y.series (x.figures w) (y.figures w) (lx.figures w).0 (ly.figures w).0
-      (series_parts x.number x.series lx.series).theory (series_parts y.number y.series ly.series).theory (lx.figures w).1 (ly.figures w).1
+      (finds_raised (P x.series.terms.ladder) (near x.series.terms.ladder) r q x.series y.series (x.figures w) (y.figures w)
+      (lx.figures w).0 (ly.figures w).0
+      (series_parts x.number x.series lx.series).theory (series_parts y.number y.series ly.series).theory (lx.figures w).1
+      (ly.figures w).1
       reference rise.series (rise.figures w) p.step)
 
   origin_raised : (x y : Station) (u v : Option Answer) → StationRaised x y → Matched NotLower u v → origin ed x u ≡ origin ed y v
@@ -228,13 +240,18 @@ module _ (P : ℕ → ℤ → Bool) (near : (n : ℕ) (z : ℤ) → Near (P n) z
   answered_raised x y u v pair h =
       let rise = pair.2 in
       ruled_first_raised x.series.ruling y.series.ruling (by_row P ed x u) (by_row P ed y v) rise.series.ruling
-      (or_refused_raised (first_found (found P (price_of u) x) 1 (row_of x.series ed)) (first_found (found P (price_of v) y) 1 (row_of y.series ed)) (origin ed x u) (origin ed y v)
-      (subst (λ (ps : List Place). Matched SettlementRaised (first_found (found P (price_of u) x) 1 (row_of x.series ed)) (first_found (found P (price_of v) y) 1 ps)) (same_row x.series y.series rise.series)
-      (first_raised (found P (price_of u) x) (found P (price_of v) y) (found_raised x y (price_of u) (price_of v) pair (price_raised u v h)) 1 (row_of x.series ed)))
+      (or_refused_raised (first_found (found P (price_of u) x) 1 (row_of x.series ed))
+      (first_found (found P (price_of v) y) 1 (row_of y.series ed)) (origin ed x u) (origin ed y v)
+      (subst (λ (ps : List Place). Matched SettlementRaised (first_found (found P (price_of u) x) 1 (row_of x.series ed))
+      (first_found (found P (price_of v) y) 1 ps)) (same_row x.series y.series rise.series)
+      (first_raised (found P (price_of u) x) (found P (price_of v) y)
+      (found_raised x y (price_of u) (price_of v) pair (price_raised u v h)) 1 (row_of x.series ed)))
       (origin_raised x y u v rise h))
 
   -- raised stations settle together, at the same step and place and at no lower price, or are refused from the same series
   pub raised_answers : (x y : Station) (xs ys : List Station) → AllByRecursion StationLawful (x ∷ xs)
       → AllByRecursion StationLawful (y ∷ ys) → AllZip StationRaised (x ∷ xs) (y ∷ ys)
       → NotLower (path_answer P ed x xs) (path_answer P ed y ys)
-  raised_answers x y xs ys l m rise = along P ed (LawfulPair StationRaised) NotLower answered_raised x y xs ys (lawful_pairs StationRaised (x ∷ xs) (y ∷ ys) l m rise)
+  raised_answers x y xs ys l m rise =
+      along P ed (LawfulPair StationRaised) NotLower answered_raised x y xs ys
+      (lawful_pairs StationRaised (x ∷ xs) (y ∷ ys) l m rise)

@@ -80,7 +80,8 @@ latest_matched R None None t v w rise h = (refl, rise)
 latest_matched R None (Some p) t v w rise h = absurd h
 latest_matched R (Some o) None t v w rise h = absurd h
 latest_matched R (Some o) (Some p) t v w rise h =
-    subst (λ (c : Bool). LastMatched R (latest (Some o) t v) (cond c (Some (record { stamp = t; value = w })) (Some p))) (ap (λ u. le_z u t) h.0) (by (le_z o.stamp t))
+    subst (λ (c : Bool). LastMatched R (latest (Some o) t v) (cond c (Some (record { stamp = t; value = w })) (Some p)))
+    (ap (λ u. le_z u t) h.0) (by (le_z o.stamp t))
   where
     by : (b : Bool) → LastMatched R (cond b (Some (record { stamp = t; value = v })) (Some o)) (cond b (Some (record { stamp = t; value = w })) (Some p))
     by true = (refl, rise)
@@ -121,21 +122,30 @@ raised_auction t p q f g rise r = record {
 
 raised_with_entry : (k l : Kind) (t : ℤ) (f g : Figures) → kind_lawful k ≡ true → KindRaised k l → FiguresRaised f g
     → FiguresRaised (with_entry k t f) (with_entry l t g)
-raised_with_entry (Trade p n) l t f g h (q, rise, is) r = subst (λ (j : Kind). FiguresRaised (traded t p n f) (with_entry j t g)) (sym is) (raised_traded t p q n f g h rise r)
+raised_with_entry (Trade p n) l t f g h (q, rise, is) r =
+    subst (λ (j : Kind). FiguresRaised (traded t p n f) (with_entry j t g)) (sym is) (raised_traded t p q n f g h rise r)
 raised_with_entry (Auction p n) l t f g h (q, rise, is) r =
     subst (λ (j : Kind). FiguresRaised (with_entry (Auction p n) t f) (with_entry j t g)) (sym is)
     (raised_traded t p q n (with_auction t p f) (with_auction t q g) h rise (raised_auction t p q f g rise r))
 raised_with_entry (Leg p n) l t f g h (q, rise, is) r = subst (λ (j : Kind). FiguresRaised f (with_entry j t g)) (sym is) r
 raised_with_entry (Spread v) l t f g h is r =
     subst (λ (j : Kind). FiguresRaised (with_entry (Spread v) t f) (with_entry j t g)) (sym is)
-    (record { trade = r.trade; auction = r.auction; spread = ap (λ o. latest o t v) r.spread; quote = r.quote; lots = r.lots; money = r.money })
+    (record {
+      trade = r.trade;
+      auction = r.auction;
+      spread = ap (λ o. latest o t v) r.spread;
+      quote = r.quote;
+      lots = r.lots;
+      money = r.money;
+    })
 raised_with_entry (Quote b a) l t f g h (c, z, bid, ask, is) r =
     subst (λ (j : Kind). FiguresRaised (with_entry (Quote b a) t f) (with_entry j t g)) (sym is)
     (record {
       trade = r.trade;
       auction = r.auction;
       spread = r.spread;
-      quote = latest_matched SidesRaised f.quote g.quote t (record { bid = b; ask = a }) (record { bid = c; ask = z }) (record { bid = bid; ask = ask }) r.quote;
+      quote = latest_matched SidesRaised f.quote g.quote t (record { bid = b; ask = a }) (record { bid = c; ask = z })
+          (record { bid = bid; ask = ask }) r.quote;
       lots = r.lots;
       money = r.money;
     })
@@ -173,4 +183,5 @@ pub raised_figures : (d : Day) (path : List ℕ) (es fs : List Entry) (s w : ℕ
 raised_figures d path es fs s w h rise on =
     raised_values (figures_of d es s w) (figures_of d fs s w)
     (related_figures d path es fs s w FiguresRaised on
-    (raised_fold d s (edges d w) empty empty (entries_on path es) (entries_on path fs) (every_on_path (allowed d) path es h) rise raised_empty))
+    (raised_fold d s (edges d w) empty empty (entries_on path es) (entries_on path fs)
+    (every_on_path (allowed d) path es h) rise raised_empty))

@@ -16,7 +16,8 @@ told_more : (d : Day) (k ladders : ℕ) (lawful : ℕ → ℤ → Bool) (xs call
 told_more d k ladders lawful xs [] w t = subst (λ ys. Told d k ys w) (sym (append-nil xs)) t
 told_more d k ladders lawful xs (c ∷ calls) w t =
     ⊎_elim
-    (λ h. subst goal (append_assoc xs (c ∷ []) rest ∙ ap (λ ys. xs ++ ys) (sym (cond-true (is_taken ladders lawful c w) (c ∷ rest) rest h)))
+    (λ h. subst goal (append_assoc xs (c ∷ []) rest ∙ ap (λ ys. xs ++ ys)
+    (sym (cond-true (is_taken ladders lawful c w) (c ∷ rest) rest h)))
     (told_more d k ladders lawful (xs ++ (c ∷ [])) calls then (told_call d k ladders lawful xs c w h t)))
     (λ h. subst goal (ap (λ ys. xs ++ ys) (sym (cond-false (is_taken ladders lawful c w) (c ∷ rest) rest h)))
     (told_more d k ladders lawful xs calls then (subst (Told d k xs) (sym (refused_stays ladders lawful c w h)) t)))
@@ -41,4 +42,5 @@ pub told_from_new : (d : Day) (k ladders : ℕ) (lawful : ℕ → ℤ → Bool) 
     → v ≡ after_run ladders lawful calls w → w ≡ new_world d k → Told d k (calls_taken ladders lawful calls w) v
 told_from_new d k ladders lawful calls w v is new =
     subst (Told d k (calls_taken ladders lawful calls w)) (sym is)
-    (subst (λ (u : World). Told d k (calls_taken ladders lawful calls u) (after_run ladders lawful calls u)) (sym new) (told_run d k ladders lawful calls))
+    (subst (λ (u : World). Told d k (calls_taken ladders lawful calls u) (after_run ladders lawful calls u)) (sym new)
+    (told_run d k ladders lawful calls))

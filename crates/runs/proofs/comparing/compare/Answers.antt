@@ -1,4 +1,4 @@
-use Rattle.std.proofs.Common.{sym, ap, ◌∙◌, w64}
+use Rattle.std.proofs.Common.{◌≡◌, sym, subst, w64}
 use Rattle.std.proofs.Math.Path.{subst₂}
 use Rattle.std.proofs.lemmas.Int.{to_z-of_z}
 use Rattle.house.specs.Houses.{set_of}
@@ -14,7 +14,7 @@ returns-clause-laws g c =
     let n = x.series in
     let ed = x.edition in
     let plain = to_z-of_z w64 n c.ranges.series in
-    let one = c.ask_both.ensures.one ∙ ap (λ z. answer_in a z ed) plain in
-    let other = c.ask_both.ensures.other ∙ ap (λ z. answer_in b z ed) plain in
+    let one = subst (λ z. c.ask_both.result.0 ≡ answer_in a z ed) plain c.ask_both.ensures.one in
+    let other = subst (λ z. c.ask_both.result.1 ≡ answer_in b z ed) plain c.ask_both.ensures.other in
     subst₂ (λ (p q : Outcome). Laws Comparable a b n ed p q) (sym one) (sym other)
     (laws a b n ed (g.met.K.LadderSet.dense (set_of x.first.house.now)))

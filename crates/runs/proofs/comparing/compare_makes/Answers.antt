@@ -16,9 +16,17 @@ returns g c =
     let other_lawful = g.L.LadderSet.lawful in
     let house = c.new-house in
     let other_house = c.new-other_house in
-    let first = begun size lawful house.result _ x.set d j x.calls.now house.ensures.state house.ensures.set c.new-board.ensures in
-    let second = begun other_size other_lawful other_house.result _ x.other_set d k x.other_calls.now other_house.ensures.state other_house.ensures.set c.new-tape.ensures in
+    let first = new_run size lawful x.set d j x.calls.now in
+    let second = new_run other_size other_lawful x.other_set d k x.other_calls.now in
+    let begins =
+    begun size lawful house.result _ x.set d j x.calls.now house.ensures.state house.ensures.set c.new-board.ensures
+    in
+    let other_begins =
+    begun other_size other_lawful other_house.result _ x.other_set d k x.other_calls.now other_house.ensures.state
+    other_house.ensures.set c.new-tape.ensures
+    in
     record {
-      laws = laws_begun _ _ (new_run size lawful x.set d j x.calls.now) (new_run other_size other_lawful x.other_set d k x.other_calls.now) _ x.series x.edition
-          c.compare.result.0 c.compare.result.1 d j k first second (to_z-of_z w64 x.series c.ranges.series) refl refl c.compare.ensures.laws;
+      laws =
+          laws_begun _ _ first second _ x.series x.edition c.compare.result.0 c.compare.result.1 d j k begins other_begins
+          (to_z-of_z w64 x.series c.ranges.series) refl refl c.compare.ensures.laws;
     }
