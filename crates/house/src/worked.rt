@@ -1,4 +1,4 @@
-// The worked prices, as one list: each is proved of what the steps and answers mean, and the tests of `house_trials` try them.
+// The worked prices, as one list: each is proved of what the steps and answers mean, and the program `house_trials` tries them.
 ghost use Rattle.std.specs.Prelude.{◌≡◌, Some, None, Err};
 ghost use Rattle.std.specs.List.{AllByRecursion};
 ghost use Rattle.house.specs.Faults.{house_number};
