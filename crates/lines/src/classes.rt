@@ -18,9 +18,9 @@ pub enum ByteClass {
 pub fn class_of(byte: u8) -> ByteClass
     ensures { Classed byte result }
 {
-    // Digits first: they are the most of a line.
+    // Digits first, and by a guard: they are the most of a line, and a range would be tried after the single bytes.
     match byte {
-        b'0'..=b'9' => ByteClass::Digit(byte - b'0'),
+        digit if digit.is_ascii_digit() => ByteClass::Digit(digit - b'0'),
         b'-' => ByteClass::Minus,
         b' ' => ByteClass::Space,
         _ => ByteClass::Other,
