@@ -1,6 +1,5 @@
 // The tape.
 ghost use Rattle.std.specs.Prelude.{◌≡◌, ◌≤◌, min, true, length, take};
-ghost use Rattle.book.specs.Days.{is_lawful};
 ghost use Rattle.book.specs.Entries.{allowed};
 ghost use Rattle.book.specs.Ledgers.{fresh};
 ghost use Rattle.book.specs.Records.{every, recorded};
@@ -27,10 +26,7 @@ pub const BLANK: Entry = Entry {
 pub struct Tape<'a> {
     slots: &'a mut [Entry],
     count: usize,
-    // Not a `LawfulDay`: the borrow checker covers no type argument that holds a `&mut` and a struct with a ghost field, and
-    // tapes are type arguments of whatever takes any book.
-    day: Day,
-    ghost lawful: { is_lawful day ≡ true },
+    day: LawfulDay,
     ghost held: { count ≤ length slots.now },
     ghost few: { count ≤ 30000 },
     ghost allowed: { every (allowed day) (take count slots.now) ≡ true },
@@ -44,7 +40,7 @@ impl<'a> Tape<'a> {
         Tape {
             slots,
             count: 0,
-            day: day.day(),
+            day,
         }
     }
 
@@ -67,12 +63,12 @@ impl Book for Tape<'_> {
     }
 
     fn figures(&self, series: u8, window: u8) -> Values {
-        let edges = edges(&self.day, window);
+        let edges = edges(&self.day(), window);
         scan(&self.slots[..self.count], series, edges).values()
     }
 
     fn day(&self) -> Day {
-        self.day
+        self.day.day()
     }
 
     fn capacity(&self) -> u16 {
@@ -86,7 +82,7 @@ impl Book for Tape<'_> {
 
 impl Reusable for Tape<'_> {
     fn begin(&mut self, day: LawfulDay) {
-        self.day = day.day();
+        self.day = day;
         self.count = 0;
     }
 }
