@@ -12,14 +12,14 @@ use anyhow::anyhow;
 use board::boards::Board;
 use book::books::Book;
 use book::lawful::LawfulDay;
+use calls::call::{Call, Reply};
+use calls::performing::perform;
 use house::houses::House;
 use ladders::bands::Band;
 use ladders::faults::LadderFault;
 use ladders::sets::{EvenSet, LadderSet, SteppedSet};
 use rows::places::Edition;
-use calls::call::{Call, Reply};
 use runs::comparing::{Answers, compare_makes};
-use calls::performing::perform;
 use tape::tapes::{BLANK, Tape};
 
 // A small day: more entries than these find the books full. It stands in `figures` too: the two programs have no crate of their

@@ -3,10 +3,10 @@
 use anyhow::anyhow;
 use book::days::Day;
 use book::entries::{Entry, Kind};
+use calls::call::Call;
 use house::phases::Bell;
 use house::terms::Listing;
 use rows::places::Marks;
-use calls::call::Call;
 use std::alloc::Global;
 
 // The day record and the ticks of its ladders, as they are read.

@@ -1,7 +1,7 @@
 // Replies and answers as they are printed.
+use calls::call::Reply;
 use house::answers::Settlement;
 use house::faults::HouseFault;
-use calls::call::Reply;
 use std::fmt;
 
 // A refusal: its number, and the origin where it has one. What is printed of a fault is this program's own, so a newtype

@@ -12,9 +12,9 @@ use board::boards::Board;
 use book::books::Book;
 use book::days::Day;
 use book::entries::{Entry, SERIES};
-use book::takings::take_both;
-use book::lawful::LawfulDay;
 use book::figures::Values;
+use book::lawful::LawfulDay;
+use book::takings::take_both;
 use tape::tapes::{BLANK, Tape};
 
 // A small day: more entries than these find the books full. It stands in `both` too: the two programs have no crate of their

@@ -2,12 +2,12 @@
 use answers::faults::LineFault;
 use answers::writing::write_answer;
 use book::faults::{BookFault, DayFault};
+use calls::call::Reply;
 use house::answers::Settlement;
 use house::faults::HouseFault;
 use ladders::faults::LadderFault;
 use lines::faults::NotRead;
 use rows::steps::Step;
-use calls::call::Reply;
 
 fn price(series: i64, price: i64, step: Step, place: u8) -> Result<Reply, LineFault> {
     let settlement = Settlement { price, step, place };
