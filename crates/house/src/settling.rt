@@ -19,7 +19,7 @@ use rows::tables::{PLACES, place_at, places};
 use std::alloc::AllocError;
 
 // A settlement, or the number of the series from which the refusal comes: nothing else can be wrong, so that no enum is
-// needed. That an answer is in reach is said by each function that gives one, since a Result has no ghost field.
+// needed. That an answer is in reach is a clause of each function that gives one, since a Result has no ghost field.
 pub(crate) type Answer = Result<Settlement, u8>;
 
 // A series of which a price is asked, with all that its answer may rest on: the ladders, the book, its number, the edition, and

@@ -1,4 +1,4 @@
-// Calls as lines say them.
+// Calls as lines write them.
 use book::days::Day;
 use calls::call::Call;
 

@@ -64,7 +64,7 @@ parsed_held line r h = ⊎_elim (λ l. long l r h) (λ l. subst (λ xs. Parsed x
       },
     )
 
--- what is said to what is held of a line is said to the line
+-- what is answered to what is held of a line is answered to the line
 pub transcript_held : (line : List ℕ) (s t : Standing) (out : List ℕ) → IsTranscript s (held line ∷ []) out t → IsTranscript s (line ∷ []) out t
 transcript_held line s t out x = record { readings = x.readings; read = whole x.readings x.read; printed = x.printed; after = x.after }
   where

@@ -9,6 +9,6 @@ returns g c =
     let h = c.args.self.now in
     let e = c.args.entry.now in
     let fits : SFits w64 e.series = search rules in
-    let said = c.in_ok-series.ensures in
-    let found = simp (to_z-of_z w64 e.series fits) at said in
+    let stated = c.in_ok-series.ensures in
+    let found = simp (to_z-of_z w64 e.series fits) at stated in
     c.check_entry.ensures ∙ passed (g.L.LadderSet.lawful h.set) c.args.day.now e (state h) c.in_ok-series.series (search rules) found

@@ -13,5 +13,5 @@ returns g c =
     let P = g.L.LadderSet.lawful c.args.self.now.set in
     let ed = c.args.edition in
     let n = c.args.series in
-    let said = c.answer_to.ensures ∙ ap (λ z. settle_answer P ed z s m) (to_z-of_z w64 n c.ranges.series) in
-    record { answer = said; path = answered_by_path P ed s m n c.answer_to.result said; meaning = answer_explained P ed s m n c.answer_to.result said }
+    let stated = c.answer_to.ensures ∙ ap (λ z. settle_answer P ed z s m) (to_z-of_z w64 n c.ranges.series) in
+    record { answer = stated; path = answered_by_path P ed s m n c.answer_to.result stated; meaning = answer_explained P ed s m n c.answer_to.result stated }

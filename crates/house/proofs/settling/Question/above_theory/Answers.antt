@@ -10,6 +10,6 @@ returns g c =
     let P = g.L.LadderSet.lawful a.set.now a.series.terms.ladder in
     let v = c.in_ok-self.field-0 in
     let fits : SFits w64 v = search rules in
-    let said = c.above.ensures in
-    let found = simp (to_z-of_z w64 v fits) at said in
+    let stated = c.above.ensures in
+    let found = simp (to_z-of_z w64 v fits) at stated in
     above_found P (g.met.L.LadderSet.dense a.set.now a.series.terms.ladder) v c.above.result found ∙ sym (ap (above_theory P) c.in_ok-self.was)
