@@ -3,6 +3,6 @@
 #![tactic(auto)]
 
 #[cfg(test)]
-mod answers;
+mod answer_cases;
 #[cfg(test)]
-mod lines;
+mod line_cases;
