@@ -1,7 +1,6 @@
 #!/usr/bin/env python3
-"""What the program `both` should print, worked out in another way from docs/RULES.md, and from crates/house/specs for what
-stands only there: lawful terms, phases, the first mark and origins. Every entry taken stays in a list, each question filters
-it and takes the last, and averages are exact fractions. Standard input to standard output; on crates/both/stdin it prints
+"""What the program `both` should print, worked out in another way from docs/RULES.md. Every entry taken stays in a list, each
+question filters it and takes the last, and averages are exact fractions. Standard input to standard output; on crates/both/stdin it prints
 crates/both/stdout."""
 import sys
 from fractions import Fraction

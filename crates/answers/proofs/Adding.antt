@@ -8,7 +8,7 @@ use Rattle.house.specs.declared.answers.Settlement.{Settlement}
 use Rattle.rows.specs.Steps.{letter}
 use Rattle.answers.specs.Faults.{line_detail, line_number}
 use Rattle.answers.specs.Texts.{Typed, answer_text}
-use Rattle.answers.specs.Written.{Added, Begins, Replied}
+use Rattle.answers.specs.Written.{PutAt, Begins, Replied}
 use Rattle.calls.specs.declared.call.Reply.{Reply}
 use Rattle.calls.specs.declared.call.Reply.TheVariants.{Done, Listed, Settled}
 use Rattle.answers.specs.declared.faults.LineFault.{LineFault}
@@ -22,7 +22,7 @@ rest_from xs ys i j h e =
     ap (λ n. drop n xs) (sym p) ∙ sym (drop-drop k i xs) ∙ ap (drop k) e ∙ drop-drop k i ys ∙ ap (λ n. drop n ys) p
 
 -- two pieces, the second where the first ends, are one
-added_both : (old s mid t new : List ℕ) (at end last : ℕ) → Added old at s mid end → Added mid end t new last → Added old at (s ++ t) new last
+added_both : (old s mid t new : List ℕ) (at end last : ℕ) → PutAt old at s mid end → PutAt mid end t new last → PutAt old at (s ++ t) new last
 added_both old s mid t new at end last a b =
     record {
       ends = omega (arith, length-append s t, a.ends, b.ends);
@@ -31,11 +31,11 @@ added_both old s mid t new at end last a b =
     }
 
 -- a space and a field
-pub added_field : (old mid f new : List ℕ) (at start end : ℕ) → Added old at (32 ∷ []) mid start → Added mid start f new end → Added old at (32 ∷ f) new end
+pub added_field : (old mid f new : List ℕ) (at start end : ℕ) → PutAt old at (32 ∷ []) mid start → PutAt mid start f new end → PutAt old at (32 ∷ f) new end
 added_field old mid f new at start end a b = added_both old (32 ∷ []) mid f new at start end a b
 
 -- what a copy into a part of the buffer gives
-pub added_part : (old bytes part : List ℕ) (at : ℕ) → at + length bytes ≤ length old → part ≡ bytes → Added old at bytes (put_mid at (at + length bytes - at) old part) (at + length bytes)
+pub added_part : (old bytes part : List ℕ) (at : ℕ) → at + length bytes ≤ length old → part ≡ bytes → PutAt old at bytes (put_mid at (at + length bytes - at) old part) (at + length bytes)
 added_part old bytes part at h e =
     let k = at + length bytes - at in
     let n : length part ≡ k = omega (arith, ap length e) in
@@ -46,12 +46,12 @@ added_part old bytes part at h e =
     }
 
 -- a whole text, which is a line of at most 96 bytes
-begins : (r : Result Reply LineFault) (old new : List ℕ) (end : ℕ) → Typed r → Added old 0 (answer_text r) new end → Begins old (answer_text r) new end
+begins : (r : Result Reply LineFault) (old new : List ℕ) (end : ℕ) → Typed r → PutAt old 0 (answer_text r) new end → Begins old (answer_text r) new end
 begins r old new end t a =
     record { added = a; short = omega (arith, a.ends, text_short r t); one_line = one_line r t }
 
 -- behind the last field nothing is added
-added_last : (old t new : List ℕ) (at end : ℕ) → Added old at t new end → Added old at (t ++ []) new end
+added_last : (old t new : List ℕ) (at end : ℕ) → PutAt old at t new end → PutAt old at (t ++ []) new end
 added_last old t new at end a = rw (append-nil t) a
 
 -- a text at the front of a buffer that has room for every answer
@@ -66,17 +66,17 @@ replied text old new end h b =
 
 -- ---- the answers, field by field
 
-pub begins_done : (old new : List ℕ) (end : ℕ) → Added old 0 (codes "done") new end → Begins old (answer_text (Ok Done)) new end
+pub begins_done : (old new : List ℕ) (end : ℕ) → PutAt old 0 (codes "done") new end → Begins old (answer_text (Ok Done)) new end
 begins_done old new end a = begins (Ok Done) old new end tt a
 
-pub begins_listed : (old mid new : List ℕ) (at end n : ℕ) → Added old 0 (codes "listed") mid at → Added mid at (32 ∷ decimal n) new end → n < 2 ^ 8 → Begins old (answer_text (Ok (Listed n))) new end
+pub begins_listed : (old mid new : List ℕ) (at end n : ℕ) → PutAt old 0 (codes "listed") mid at → PutAt mid at (32 ∷ decimal n) new end → n < 2 ^ 8 → Begins old (answer_text (Ok (Listed n))) new end
 begins_listed old mid new at end n a b h =
     begins (Ok (Listed n)) old new end h
     (added_both old (codes "listed") mid _ new 0 at end a (added_last mid (32 ∷ decimal n) new at end b))
 
-pub begins_price : (old m1 m2 m3 m4 new : List ℕ) (a1 a2 a3 a4 end l : ℕ) (z : ℤ) (s : Settlement) → Added old 0 (codes "price") m1 a1 → Added m1 a1 (32 ∷ signed_decimal z) m2 a2 → Added m2 a2 (32 ∷ signed_decimal s.price) m3 a3 → Added m3 a3 (32 ∷ l ∷ []) m4 a4 → l ≡ letter s.step → Added m4 a4 (32 ∷ decimal s.place) new end → SFits w64 z → SFits w64 s.price → s.place < 2 ^ 8 → Begins old (answer_text (Ok (Settled z s))) new end
+pub begins_price : (old m1 m2 m3 m4 new : List ℕ) (a1 a2 a3 a4 end l : ℕ) (z : ℤ) (s : Settlement) → PutAt old 0 (codes "price") m1 a1 → PutAt m1 a1 (32 ∷ signed_decimal z) m2 a2 → PutAt m2 a2 (32 ∷ signed_decimal s.price) m3 a3 → PutAt m3 a3 (32 ∷ l ∷ []) m4 a4 → l ≡ letter s.step → PutAt m4 a4 (32 ∷ decimal s.place) new end → SFits w64 z → SFits w64 s.price → s.place < 2 ^ 8 → Begins old (answer_text (Ok (Settled z s))) new end
 begins_price old m1 m2 m3 m4 new a1 a2 a3 a4 end l z s a b c d e f g h i =
-    let step : Added m3 a3 (32 ∷ letter s.step ∷ []) m4 a4 = rw (sym e) d in
+    let step : PutAt m3 a3 (32 ∷ letter s.step ∷ []) m4 a4 = rw (sym e) d in
     begins (Ok (Settled z s)) old new end (g, h, i)
     (added_both old (codes "price") m1 _ new 0 a1 end a
     (added_both m1 (32 ∷ signed_decimal z) m2 _ new a1 a2 end b
@@ -84,14 +84,14 @@ begins_price old m1 m2 m3 m4 new a1 a2 a3 a4 end l z s a b c d e f g h i =
     (added_both m3 (32 ∷ letter s.step ∷ []) m4 _ new a3 a4 end step
     (added_last m4 (32 ∷ decimal s.place) new a4 end f)))))
 
-pub begins_refused : (old mid new : List ℕ) (at end n : ℕ) (f : LineFault) → Added old 0 (codes "refused") mid at → Added mid at (32 ∷ decimal n) new end → n ≡ line_number f → None ≡ line_detail f → Begins old (answer_text (Err f)) new end
+pub begins_refused : (old mid new : List ℕ) (at end n : ℕ) (f : LineFault) → PutAt old 0 (codes "refused") mid at → PutAt mid at (32 ∷ decimal n) new end → n ≡ line_number f → None ≡ line_detail f → Begins old (answer_text (Err f)) new end
 begins_refused old mid new at end n f a b e d =
     let typed : Typed (Err f) = rw (sym d) tt in
     begins (Err f) old new end typed
     (rw (sym e, sym d)
     (added_both old (codes "refused") mid _ new 0 at end a (added_last mid (32 ∷ decimal n) new at end b)))
 
-pub begins_detail : (old m1 m2 new : List ℕ) (a1 a2 end n k : ℕ) (f : LineFault) → Added old 0 (codes "refused") m1 a1 → Added m1 a1 (32 ∷ decimal n) m2 a2 → n ≡ line_number f → Added m2 a2 (32 ∷ decimal k) new end → Some k ≡ line_detail f → k < 2 ^ 8 → Begins old (answer_text (Err f)) new end
+pub begins_detail : (old m1 m2 new : List ℕ) (a1 a2 end n k : ℕ) (f : LineFault) → PutAt old 0 (codes "refused") m1 a1 → PutAt m1 a1 (32 ∷ decimal n) m2 a2 → n ≡ line_number f → PutAt m2 a2 (32 ∷ decimal k) new end → Some k ≡ line_detail f → k < 2 ^ 8 → Begins old (answer_text (Err f)) new end
 begins_detail old m1 m2 new a1 a2 end n k f a b e c d h =
     let typed : Typed (Err f) = rw (sym d) h in
     begins (Err f) old new end typed

@@ -5,7 +5,7 @@ use Rattle.ladders.specs.Faults.{ladder_number, ladder_reason}
 use Rattle.house.specs.Faults.{house_number, house_reason}
 use Rattle.lines.specs.Faults.{not_read_reason}
 use Rattle.house.specs.declared.faults.HouseFault.{HouseFault}
-use Rattle.house.specs.declared.faults.HouseFault.TheVariants as house
+use Rattle.house.specs.declared.faults.HouseFault.TheVariants as house_faults
 use Rattle.answers.specs.declared.faults.LineFault.{LineFault}
 use Rattle.answers.specs.declared.faults.LineFault.TheVariants.{NoDay, SecondDay, Day, Ladders, House, NotRead, ShortBuffer}
 
@@ -20,15 +20,15 @@ line_number ShortBuffer = 12
 
 -- the series from which a refused price comes
 abbrev pub house_origin : HouseFault → Option ℕ
-house_origin house.WrongPhase = None
-house_origin house.SeriesFull = None
-house_origin house.NoSuchSeries = None
-house_origin house.TermsNotLawful = None
-house_origin house.SuppliedBeyondLimits = None
-house_origin house.OffLadder = None
-house_origin house.SpreadNotFollowing = None
-house_origin (house.NoPrice origin) = Some origin
-house_origin (house.Book f) = None
+house_origin house_faults.WrongPhase = None
+house_origin house_faults.SeriesFull = None
+house_origin house_faults.NoSuchSeries = None
+house_origin house_faults.TermsNotLawful = None
+house_origin house_faults.SuppliedBeyondLimits = None
+house_origin house_faults.OffLadder = None
+house_origin house_faults.SpreadNotFollowing = None
+house_origin (house_faults.NoPrice origin) = Some origin
+house_origin (house_faults.Book f) = None
 
 -- that origin, or the place in the line
 abbrev pub line_detail : LineFault → Option ℕ

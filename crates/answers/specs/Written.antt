@@ -13,13 +13,13 @@ pub record Replied (text old : List ℕ) (r : Result ℕ LineFault) (new : List 
 -- ---- pieces of a text, on the way
 
 -- the bytes stand from a place to an end, and all else is as it was
-pub record Added (old : List ℕ) (at : ℕ) (bytes new : List ℕ) (end : ℕ) : Type 0 where
+pub record PutAt (old : List ℕ) (at : ℕ) (bytes new : List ℕ) (end : ℕ) : Type 0 where
   pub ends : end ≡ at + length bytes
   pub front : take end new ≡ take at old ++ bytes
   pub rest : drop end new ≡ drop end old
 
 -- the buffer begins with a text of one line, of at most 96 bytes, and all else is as it was
 pub record Begins (old text new : List ℕ) (end : ℕ) : Type 0 where
-  pub added : Added old 0 text new end
+  pub added : PutAt old 0 text new end
   pub short : end ≤ 96
   pub one_line : OneLine text

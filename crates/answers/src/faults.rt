@@ -1,7 +1,7 @@
 // Why a line is refused: the number that each refusal is known by, what is told beside the number, and its text.
 ghost use Rattle.std.specs.Prelude.{◌≡◌, ◌⊎◌, ◌↔◌, IsSome, Some};
 ghost use Rattle.answers.specs.Faults.{line_detail, line_number, line_reason};
-ghost use Rattle.answers.specs.declared.faults.LineFault.TheVariants as refused;
+ghost use Rattle.answers.specs.declared.faults.LineFault.TheVariants as faults;
 
 use book::faults::DayFault;
 use house::faults::HouseFault;
@@ -80,7 +80,7 @@ impl fmt::Display for LineFault {
 impl Error for LineFault {}
 
 impl From<DayFault> for LineFault {
-    ghost from_gives = { λ f r. r ≡ refused.Day f };
+    ghost from_gives = { λ f r. r ≡ faults.Day f };
 
     fn from(refusal: DayFault) -> LineFault {
         LineFault::Day(refusal)
@@ -88,7 +88,7 @@ impl From<DayFault> for LineFault {
 }
 
 impl From<LadderFault> for LineFault {
-    ghost from_gives = { λ f r. r ≡ refused.Ladders f };
+    ghost from_gives = { λ f r. r ≡ faults.Ladders f };
 
     fn from(refusal: LadderFault) -> LineFault {
         LineFault::Ladders(refusal)
@@ -96,7 +96,7 @@ impl From<LadderFault> for LineFault {
 }
 
 impl From<HouseFault> for LineFault {
-    ghost from_gives = { λ f r. r ≡ refused.House f };
+    ghost from_gives = { λ f r. r ≡ faults.House f };
 
     fn from(refusal: HouseFault) -> LineFault {
         LineFault::House(refusal)
@@ -104,7 +104,7 @@ impl From<HouseFault> for LineFault {
 }
 
 impl From<NotRead> for LineFault {
-    ghost from_gives = { λ f r. r ≡ refused.NotRead f };
+    ghost from_gives = { λ f r. r ≡ faults.NotRead f };
 
     fn from(refusal: NotRead) -> LineFault {
         LineFault::NotRead(refusal)

@@ -3,7 +3,7 @@
 
 ghost use Rattle.std.specs.Prelude.{◌≡◌, ◌+◌, ◌≤◌, ◌∷◌, length, IfOk, OnOk};
 ghost use Rattle.answers.specs.Texts.{answer_text, AllOneLine, Longest, OneLine, TextsApart};
-ghost use Rattle.answers.specs.Written.{Added, Begins, Replied};
+ghost use Rattle.answers.specs.Written.{PutAt, Begins, Replied};
 
 use crate::faults::LineFault;
 use calls::call::Reply;
@@ -28,7 +28,7 @@ pub fn room() -> usize
 // Copies the bytes to a place of the buffer, and tells where they end.
 fn put(out: &mut [u8], at: usize, bytes: &[u8]) -> usize
     requires { at + length bytes.now ≤ length out.old }
-    ensures { Added out.old at bytes.now out.new result }
+    ensures { PutAt out.old at bytes.now out.new result }
 {
     let end = at + bytes.len();
     out[at..end].copy_from_slice(bytes);
@@ -38,7 +38,7 @@ fn put(out: &mut [u8], at: usize, bytes: &[u8]) -> usize
 // The same of a field that is not the first: a space goes before it.
 fn put_field(out: &mut [u8], at: usize, field: &[u8]) -> usize
     requires { at + 1 + length field.now ≤ length out.old }
-    ensures { Added out.old at (32 ∷ field.now) out.new result }
+    ensures { PutAt out.old at (32 ∷ field.now) out.new result }
 {
     let start = put(out, at, b" ");
     put(out, start, field)
@@ -46,7 +46,7 @@ fn put_field(out: &mut [u8], at: usize, field: &[u8]) -> usize
 
 fn put_number<I: Integer>(out: &mut [u8], at: usize, number: I) -> usize
     requires { at + 1 + I.MAX_STR_LEN ≤ length out.old }
-    ensures added { Added out.old at (32 ∷ I.text number) out.new result }
+    ensures added { PutAt out.old at (32 ∷ I.text number) out.new result }
     ensures short { result ≤ at + 1 + I.MAX_STR_LEN }
 {
     let mut buffer = Buffer::new();

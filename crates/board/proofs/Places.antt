@@ -5,7 +5,7 @@ use Rattle.std.proofs.lemmas.Bool.{and_parts, cond-false, cond_both, leb-true}
 use Rattle.book.specs.Figures.{empty}
 use Rattle.book.specs.Ledgers.{in_range}
 use Rattle.book.specs.declared.figures.Figures.{Figures}
-use Rattle.board.specs.Cells.{cell, place}
+use Rattle.board.specs.Cells.{cell, cell_index}
 
 pub range_bounds : (s w : ℕ) → in_range s w ≡ true → (s ≤ 31) × ((1 ≤ w) × (w ≤ 13))
 range_bounds s w h =
@@ -13,7 +13,7 @@ range_bounds s w h =
     let windows = and_parts (leb 1 w) (leb w 13) both.1 in
     (leb-true s 31 both.0, (leb-true 1 w windows.0, leb-true w 13 windows.1))
 
-place_within : (s w : ℕ) → in_range s w ≡ true → place s w < 416
+place_within : (s w : ℕ) → in_range s w ≡ true → cell_index s w < 416
 place_within s w h =
     let b = range_bounds s w h in
     let series = b.0 in
@@ -22,11 +22,11 @@ place_within s w h =
     omega arith
 
 pub cell_outside : (cells : List Figures) (s w : ℕ) → in_range s w ≡ false → cell cells s w ≡ empty
-cell_outside cells s w h = cond-false (in_range s w) (get_or cells (place s w) empty) empty h
+cell_outside cells s w h = cond-false (in_range s w) (get_or cells (cell_index s w) empty) empty h
 
 -- a table of empty records has empty figures everywhere
 pub cell_none : (s w : ℕ) → cell (replicate 416 empty) s w ≡ empty
 cell_none s w =
-    cond_both (in_range s w) (get_or (replicate 416 empty) (place s w) empty) empty (λ f. f ≡ empty)
-    (λ h. get_or-replicate 416 (place s w) empty empty (place_within s w h))
+    cond_both (in_range s w) (get_or (replicate 416 empty) (cell_index s w) empty) empty (λ f. f ≡ empty)
+    (λ h. get_or-replicate 416 (cell_index s w) empty empty (place_within s w h))
     (λ h. refl)

@@ -4,7 +4,7 @@ use Rattle.std.proofs.lemmas.Bool.{and_from, cond_both}
 use Rattle.book.specs.Bounds.{bounded}
 use Rattle.book.specs.Entries.{kind_lawful}
 use Rattle.book.specs.Figures.{entered_if, stamp_small, values}
-use Rattle.book.specs.Ledgers.{Lawful, after, entered, with_taken, in_range, reply}
+use Rattle.book.specs.Ledgers.{Lawful, take_after, entered, with_taken, in_range, admission}
 use Rattle.book.specs.Windows.{edges}
 use Rattle.book.specs.declared.days.Day.{Day}
 use Rattle.book.specs.declared.entries.Entry.{Entry}
@@ -16,17 +16,17 @@ use Rattle.board.specs.Cells.{cell, tabled}
 
 pub record Takes (d : Day) (k n : ℕ) (old new : List Figures) (e : Entry) : Type 0 where
   pub bounds : (s w : ℕ) → bounded (n + 1) (values (cell new s w)) ≡ true
-  pub after : tabled d k (n + 1) new ≡ after (tabled d k n old) e
+  pub after : tabled d k (n + 1) new ≡ take_after (tabled d k n old) e
 
 -- the day, count and capacity may have been come by in any way
-pub takes : (d d' : Day) (k n k' n' : ℕ) (old new : List Figures) (e : Entry) → Lawful (tabled d k n old) → d' ≡ d → n' ≡ n → k' ≡ k → Ok tt ≡ reply d' n' k' e → ((s w : ℕ) → cell new s w ≡ cond (in_range s w) (entered_if s (edges d' w) (cell old s w) e) (cell old s w)) → Takes d k n old new e
+pub takes : (d d' : Day) (k n k' n' : ℕ) (old new : List Figures) (e : Entry) → Lawful (tabled d k n old) → d' ≡ d → n' ≡ n → k' ≡ k → Ok tt ≡ admission d' n' k' e → ((s w : ℕ) → cell new s w ≡ cond (in_range s w) (entered_if s (edges d' w) (cell old s w) e) (cell old s w)) → Takes d k n old new e
 takes d d' k n k' n' old new e lawful day count capacity ok entered_everywhere = record {
   bounds = λ s w. ap (λ f. bounded (n + 1) (values f)) (all s w) ∙ bounded_entered n s (edges d w) (cell old s w) e (allowed_kind d e a.lawful) (lawful.bounds s w);
   after = taken ∙ sym a.taken;
 }
   where
     a : Admitted (tabled d k n old) e
-    a = admitted (tabled d k n old) e (ok ∙ ap (λ x. reply x n' k' e) day ∙ same_reply (tabled d k n old) n' k' e count capacity)
+    a = admitted (tabled d k n old) e (ok ∙ ap (λ x. admission x n' k' e) day ∙ same_reply (tabled d k n old) n' k' e count capacity)
 
     all : (s w : ℕ) → cell new s w ≡ entered d s w (cell old s w) e
     all s w =

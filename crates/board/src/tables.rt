@@ -3,7 +3,7 @@ ghost use Rattle.std.specs.Prelude.{◌≡◌, ℕ, ◌&&◌, if◌then◌else�
 ghost use Rattle.book.specs.Figures.{empty, entered_if, entered_sound};
 ghost use Rattle.book.specs.Ledgers.{in_range};
 ghost use Rattle.book.specs.Windows.{edges};
-ghost use Rattle.board.specs.Cells.{cell, place};
+ghost use Rattle.board.specs.Cells.{cell, cell_index};
 
 use book::days::Day;
 use book::entries::{Entry, SERIES};
@@ -23,8 +23,8 @@ pub(crate) struct Table {
 }
 
 // Where the record of a series and window stands, if the table has one.
-fn place(series: u8, window: u8) -> Option<usize>
-    ensures { result ≡ (if in_range series window then Some (place series window) else None) }
+fn cell_index(series: u8, window: u8) -> Option<usize>
+    ensures { result ≡ (if in_range series window then Some (cell_index series window) else None) }
 {
     let inside = series < SERIES && (1..=WINDOWS).contains(&window);
     inside.then(|| usize::from(series) * usize::from(WINDOWS) + (usize::from(window) - 1))
@@ -44,21 +44,25 @@ impl Table {
     pub(crate) fn at(&self, series: u8, window: u8) -> Figures
         ensures { result ≡ cell self.now.cells series window }
     {
-        place(series, window).map_or_else(Figures::empty, |i| self.cells[i])
+        cell_index(series, window).map_or_else(Figures::empty, |i| self.cells[i])
     }
 
     // A sound entry enters one record, in place, if a window with these edges holds its stamp; every other record stays.
     fn enter_at(&mut self, series: u8, window: u8, e: &SoundEntry, edges: (i64, i64))
-        ensures { (s w : ℕ) → cell self.new.cells s w ≡ (if in_range s w && (nat_eq s series && w == window) then entered_sound edges (cell self.old.cells s w) e.now else cell self.old.cells s w) }
+        ensures { (s w : ℕ) →
+            let old = cell self.old.cells s w in
+            cell self.new.cells s w ≡ (if in_range s w && (nat_eq s series && w == window) then entered_sound edges old e.now else old) }
     {
-        if let Some(i) = place(series, window) {
+        if let Some(i) = cell_index(series, window) {
             self.cells[i].enter_sound(e, edges);
         }
     }
 
     // A sound entry enters the records of its series, window by window.
     fn enter_windows(&mut self, day: &Day, series: u8, e: &SoundEntry)
-        ensures { (s w : ℕ) → cell self.new.cells s w ≡ (if in_range s w && nat_eq s series then entered_sound (edges day.now w) (cell self.old.cells s w) e.now else cell self.old.cells s w) }
+        ensures { (s w : ℕ) →
+            let old = cell self.old.cells s w in
+            cell self.new.cells s w ≡ (if in_range s w && nat_eq s series then entered_sound (edges day.now w) old e.now else old) }
     {
         let windows = windows(day);
         for window in 1..=WINDOWS {
@@ -68,7 +72,9 @@ impl Table {
 
     // An entry enters the records of its series. One beyond the limits of any day changes nothing.
     pub(crate) fn enter_all(&mut self, day: &Day, e: &Entry)
-        ensures { (s w : ℕ) → cell self.new.cells s w ≡ (if in_range s w then entered_if s (edges day.now w) (cell self.old.cells s w) e.now else cell self.old.cells s w) }
+        ensures { (s w : ℕ) →
+            let old = cell self.old.cells s w in
+            cell self.new.cells s w ≡ (if in_range s w then entered_if s (edges day.now w) old e.now else old) }
     {
         let Some(sound) = SoundEntry::new(e) else {
             return;

@@ -4,7 +4,7 @@ use Rattle.std.proofs.lemmas.List.{length_push}
 use Rattle.std.proofs.lemmas.List.Sums.{fold_push}
 use Rattle.std.proofs.lemmas.Bool.{and_parts, and_from}
 use Rattle.book.specs.Bounds.{bounded}
-use Rattle.book.specs.Days.{is_lawful}
+use Rattle.book.specs.Days.{is_lawful_day}
 use Rattle.book.specs.Entries.{allowed, kind_lawful}
 use Rattle.book.specs.Figures.{empty, entered_if, entered_in, sound, stamp_small, values}
 use Rattle.book.specs.Ledgers.{Lawful, entered, with_taken, in_range}
@@ -27,7 +27,7 @@ every_push p (y ∷ ys) x e h =
 -- ---- folds over allowed entries
 
 -- allowed entries of a lawful day are sound
-pub every_sound : (d : Day) (es : List Entry) → is_lawful d ≡ true → every (allowed d) es ≡ true → every sound es ≡ true
+pub every_sound : (d : Day) (es : List Entry) → is_lawful_day d ≡ true → every (allowed d) es ≡ true → every sound es ≡ true
 every_sound d [] l h = refl
 every_sound d (e ∷ es) l h =
     let both = and_parts (allowed d e) (every (allowed d) es) h in
@@ -70,7 +70,7 @@ outside_from d s w f (e ∷ es) h r =
     ap (λ g. fold (entered d s w) g es) (outside_stays d s w f e both.0 r) ∙ outside_from d s w f es both.1 r
 
 -- a book of allowed entries is lawful
-pub lawful_record : (d : Day) (k : ℕ) (es : List Entry) → is_lawful d ≡ true → k ≤ 30000 → length es ≤ k → every (allowed d) es ≡ true → Lawful (recorded d k es)
+pub lawful_record : (d : Day) (k : ℕ) (es : List Entry) → is_lawful_day d ≡ true → k ≤ 30000 → length es ≤ k → every (allowed d) es ≡ true → Lawful (recorded d k es)
 lawful_record d k es l most room h = record {
   lawful_day = l;
   most = most;

@@ -4,7 +4,7 @@ use lib.Signed.{le_z, lt_z}
 use Rattle.std.proofs.lemmas.List.{get_or_past}
 use Rattle.std.proofs.lemmas.Int.{ints}
 use Rattle.std.proofs.lemmas.Bool.{and_parts, and_from, and_left, and_right, and_cases, cond-false, leb-true, leb-false, ne_eqb}
-use Rattle.book.specs.Days.{is_lawful}
+use Rattle.book.specs.Days.{is_lawful_day}
 use Rattle.book.specs.Entries.{allowed, kind_lawful}
 use Rattle.book.specs.Figures.{concerns, is_series, with_entry, stamp_small}
 use Rattle.book.specs.Ledgers.{entered, in_range}
@@ -24,7 +24,7 @@ allowed_place d e h =
     (and_parts ((le_z (pos 0) e.series && le_z e.series (pos 31)) && holds (d.night, d.close) e.stamp) (kind_lawful e.kind) h).0
 
 -- a lawful day begins at second 0 or later and ends at second 172,799 or earlier
-day_ends : (d : Day) → is_lawful d ≡ true → (pos 0 ≤ℤ d.night) × (d.close ≤ℤ pos 172799)
+day_ends : (d : Day) → is_lawful_day d ≡ true → (pos 0 ≤ℤ d.night) × (d.close ≤ℤ pos 172799)
 day_ends d h =
     let night = le_z (pos 0) d.night && le_z d.night (pos 86399) in
     let openings = le_z (pos 86400) d.opening && le_z d.opening d.afternoon in
@@ -35,7 +35,7 @@ day_ends d h =
     let last = (and_parts (lt_z d.afternoon d.close) (le_z d.close (pos 172799)) (and_parts close cut both.1).0).1 in
     (le_from (pos 0) d.night first, le_from d.close (pos 172799) last)
 
-pub allowed_stamp : (d : Day) (e : Entry) → is_lawful d ≡ true → allowed d e ≡ true → stamp_small e.stamp ≡ true
+pub allowed_stamp : (d : Day) (e : Entry) → is_lawful_day d ≡ true → allowed d e ≡ true → stamp_small e.stamp ≡ true
 allowed_stamp d e l h =
     let ends = day_ends d l in
     let first = ends.0 in

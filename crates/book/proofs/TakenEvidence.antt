@@ -3,7 +3,7 @@ use Rattle.std.proofs.Common.{◌≡◌, ℕ, true, false, List, [], ◌∷◌, 
 use Rattle.std.proofs.lemmas.List.{append_assoc, append-nil}
 use Rattle.std.proofs.lemmas.Bool.{cond-false, cond-true}
 use Rattle.book.specs.Evidence.{Evidence}
-use Rattle.book.specs.Ledgers.{Ledger, after, answer, fresh, with_taken}
+use Rattle.book.specs.Ledgers.{Ledger, take_after, take_answer, fresh, with_taken}
 use Rattle.book.specs.Records.{recorded}
 use Rattle.book.specs.Takings.{after_all, entries_taken}
 use Rattle.book.specs.declared.days.Day.{Day}
@@ -16,23 +16,23 @@ use Rattle.book.proofs.RecordedEvidence.{evidence}
 abbrev Recorded : Day → ℕ → List Entry → List Entry → Type 0
 Recorded d k xs es = after_all (recorded d k xs) es ≡ recorded d k (xs ++ entries_taken (recorded d k xs) es)
 
-one_taken : (d : Day) (k : ℕ) (xs es : List Entry) (e : Entry) → is_ok (answer (recorded d k xs) e) ≡ true → after (recorded d k xs) e ≡ with_taken (recorded d k xs) e → Recorded d k (xs ++ (e ∷ [])) es → Recorded d k xs (e ∷ es)
+one_taken : (d : Day) (k : ℕ) (xs es : List Entry) (e : Entry) → is_ok (take_answer (recorded d k xs) e) ≡ true → take_after (recorded d k xs) e ≡ with_taken (recorded d k xs) e → Recorded d k (xs ++ (e ∷ [])) es → Recorded d k xs (e ∷ es)
 one_taken d k xs es e ok is whole =
     let m = recorded d k xs in
-    let more : after m e ≡ recorded d k (xs ++ (e ∷ [])) = is ∙ sym (recorded_push d k xs e) in
+    let more : take_after m e ≡ recorded d k (xs ++ (e ∷ [])) = is ∙ sym (recorded_push d k xs e) in
     ap (λ n. after_all n es) more
     ∙ whole
     ∙ ap (recorded d k) (append_assoc xs (e ∷ []) (entries_taken (recorded d k (xs ++ (e ∷ []))) es))
     ∙ ap (λ n. recorded d k (xs ++ (e ∷ entries_taken n es))) (sym more)
-    ∙ ap (λ ys. recorded d k (xs ++ ys)) (sym (cond-true (is_ok (answer m e)) (e ∷ entries_taken (after m e) es) (entries_taken (after m e) es) ok))
+    ∙ ap (λ ys. recorded d k (xs ++ ys)) (sym (cond-true (is_ok (take_answer m e)) (e ∷ entries_taken (take_after m e) es) (entries_taken (take_after m e) es) ok))
 
-one_refused : (d : Day) (k : ℕ) (xs es : List Entry) (e : Entry) → is_ok (answer (recorded d k xs) e) ≡ false → after (recorded d k xs) e ≡ recorded d k xs → Recorded d k xs es → Recorded d k xs (e ∷ es)
+one_refused : (d : Day) (k : ℕ) (xs es : List Entry) (e : Entry) → is_ok (take_answer (recorded d k xs) e) ≡ false → take_after (recorded d k xs) e ≡ recorded d k xs → Recorded d k xs es → Recorded d k xs (e ∷ es)
 one_refused d k xs es e ok is whole =
     let m = recorded d k xs in
     ap (λ n. after_all n es) is
     ∙ whole
     ∙ ap (λ n. recorded d k (xs ++ entries_taken n es)) (sym is)
-    ∙ ap (λ ys. recorded d k (xs ++ ys)) (sym (cond-false (is_ok (answer m e)) (e ∷ entries_taken (after m e) es) (entries_taken (after m e) es) ok))
+    ∙ ap (λ ys. recorded d k (xs ++ ys)) (sym (cond-false (is_ok (take_answer m e)) (e ∷ entries_taken (take_after m e) es) (entries_taken (take_after m e) es) ok))
 
 recorded_all : (d : Day) (k : ℕ) (xs es : List Entry) → Recorded d k xs es
 recorded_all d k xs [] = ap (recorded d k) (sym (append-nil xs))

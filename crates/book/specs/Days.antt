@@ -5,8 +5,8 @@ use Rattle.book.specs.declared.days.Day.{Day}
 
 -- the night session opens on the first date; the day session opens, goes on in the afternoon and closes on the second, in
 -- this order; the morning cut lies between its opening and its close
-abbrev pub is_lawful : Day → Bool
-is_lawful d =
+abbrev pub is_lawful_day : Day → Bool
+is_lawful_day d =
     ((int_le (pos 0) d.night && int_le d.night (pos 86399)) && (int_le (pos 86400) d.opening && int_le d.opening d.afternoon))
     && ((int_lt d.afternoon d.close && int_le d.close (pos 172799)) && (int_lt d.opening d.cut && int_lt d.cut d.close))
 

@@ -1,7 +1,7 @@
 -- A book's meaning, and what taking an entry does to it.
 use Rattle.std.specs.Prelude.{◌≡◌, ℕ, ◌+◌, ◌≤◌, Bool, true, false, cond, ◌&&◌, Ok, Err, Result, ◌==◌, nat_le}
 use Rattle.book.specs.Bounds.{bounded}
-use Rattle.book.specs.Days.{is_lawful}
+use Rattle.book.specs.Days.{is_lawful_day}
 use Rattle.book.specs.Entries.{allowed}
 use Rattle.book.specs.Figures.{empty, entered_in, values}
 use Rattle.book.specs.Windows.{edges}
@@ -24,11 +24,11 @@ fresh d k = record { day = d; capacity = k; count = 0; figures = λ s w. empty }
 
 -- an entry that is not allowed is refused so, whether or not there is a place; else one that finds none is refused, and
 -- there is no other refusal
-abbrev pub reply : Day → ℕ → ℕ → Entry → Result Unit BookFault
-reply d count capacity e = cond (allowed d e) (cond (count == capacity) (Err Full) (Ok tt)) (Err BeyondLimits)
+abbrev pub admission : Day → ℕ → ℕ → Entry → Result Unit BookFault
+admission d count capacity e = cond (allowed d e) (cond (count == capacity) (Err Full) (Ok tt)) (Err BeyondLimits)
 
-abbrev pub answer : Ledger → Entry → Result Unit BookFault
-answer m e = reply m.day m.count m.capacity e
+abbrev pub take_answer : Ledger → Entry → Result Unit BookFault
+take_answer m e = admission m.day m.count m.capacity e
 
 -- an entry enters the figures of its series in every window that holds its stamp; all else stays
 abbrev pub entered : Day → ℕ → ℕ → Figures → Entry → Figures
@@ -43,8 +43,8 @@ with_taken m e = record {
 }
 
 -- a refused entry changes nothing
-abbrev pub after : Ledger → Entry → Ledger
-after m e = cond (allowed m.day e) (cond (m.count == m.capacity) m (with_taken m e)) m
+abbrev pub take_after : Ledger → Entry → Ledger
+take_after m e = cond (allowed m.day e) (cond (m.count == m.capacity) m (with_taken m e)) m
 
 -- series 0 to 31 and windows 1 to 13
 abbrev pub in_range : ℕ → ℕ → Bool
@@ -52,7 +52,7 @@ in_range s w = nat_le s 31 && (nat_le 1 w && nat_le w 13)
 
 -- what holds of every book
 pub record Lawful (m : Ledger) : Type 0 where
-  pub lawful_day : is_lawful m.day ≡ true
+  pub lawful_day : is_lawful_day m.day ≡ true
   pub most : m.capacity ≤ 30000
   pub room : m.count ≤ m.capacity
   pub bounds : (s w : ℕ) → bounded m.count (values (m.figures s w)) ≡ true

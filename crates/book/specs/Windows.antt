@@ -3,8 +3,8 @@ use Rattle.std.specs.Prelude.{ℕ, Bool, cond, ◌&&◌, List, [], ◌∷◌, �
 use Rattle.book.specs.declared.days.Day.{Day}
 
 -- the second before a stamp; none lies before second 0
-abbrev pub before : ℤ → ℤ
-before t = cond (int_lt (pos 0) t) (t -ℤ pos 1) t
+abbrev pub second_before : ℤ → ℤ
+second_before t = cond (int_lt (pos 0) t) (t -ℤ pos 1) t
 
 -- an empty window, for the numbers that no window has
 abbrev pub nothing : ℤ × ℤ
@@ -24,9 +24,9 @@ windows d =
     ∷ (d.opening, pos 126120)
     ∷ (d.night, pos 126120)
     ∷ (pos 125100, pos 126000)
-    ∷ (d.opening, before d.cut)
-    ∷ (d.night, before d.cut)
-    ∷ (pos 125100, before d.cut)
+    ∷ (d.opening, second_before d.cut)
+    ∷ (d.night, second_before d.cut)
+    ∷ (pos 125100, second_before d.cut)
     ∷ []
 
 abbrev pub edges : Day → ℕ → ℤ × ℤ

@@ -2,7 +2,7 @@
 ghost use Rattle.std.specs.Prelude.{◌≡◌, ◌≤◌, true};
 ghost use Rattle.book.specs.Bounds.{bounded};
 ghost use Rattle.book.specs.Figures.{values};
-ghost use Rattle.book.specs.Ledgers.{Ledger, Lawful, after, answer, fresh, reply};
+ghost use Rattle.book.specs.Ledgers.{Ledger, Lawful, take_after, take_answer, fresh, admission};
 
 use crate::days::Day;
 use crate::entries::{Entry, is_allowed};
@@ -16,7 +16,7 @@ pub const MOST: usize = 30_000;
 /// Whether a book of the day may take the entry, after `count` entries, of `capacity` in all. `BeyondLimits`: a number beyond
 /// its limits, a crossed quote, or no such series, whether or not there is a place; `Full`: else, if there is none.
 pub fn admit(day: &Day, count: usize, capacity: usize, entry: &Entry) -> Result<(), BookFault>
-    ensures { result ≡ reply day.now count capacity entry.now }
+    ensures { result ≡ admission day.now count capacity entry.now }
 {
     if !is_allowed(day, entry) {
         Err(BookFault::BeyondLimits)
@@ -34,8 +34,8 @@ pub trait Book {
 
     /// Takes an entry, or refuses it as `admit` does and changes nothing.
     fn take(&mut self, entry: Entry) -> Result<(), BookFault>
-        ensures answer { result ≡ answer (meaning self.old) entry }
-        ensures after { meaning self.new ≡ after (meaning self.old) entry };
+        ensures answer { result ≡ take_answer (meaning self.old) entry }
+        ensures after { meaning self.new ≡ take_after (meaning self.old) entry };
 
     /// The figures of a series and a window; empty outside series 0 to 31 and windows 1 to 13. Raw numbers, since a narrower
     /// type would ask more of callers.

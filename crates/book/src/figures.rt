@@ -221,7 +221,8 @@ impl Figures {
     /// A sound entry of the series enters the figures of a window with these edges, a first and a last second, if the window
     /// holds its stamp. An entry for which the sums have no room changes nothing.
     pub fn enter_sound(&mut self, e: &SoundEntry, edges: (i64, i64))
-        ensures { self.new ≡ entered_sound edges self.old e.now }
+        ensures figures { self.new ≡ entered_sound edges self.old e.now }
+        ensures sound { sound e.now ≡ true }
     {
         let (first, last) = edges;
         if (first..=last).contains(&e.entry.stamp) && self.has_room() {

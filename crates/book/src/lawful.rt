@@ -1,6 +1,6 @@
 // A day record that was found lawful.
 ghost use Rattle.std.specs.Prelude.{◌≡◌, true, false, MatchResult};
-ghost use Rattle.book.specs.Days.{is_lawful, least_day};
+ghost use Rattle.book.specs.Days.{is_lawful_day, least_day};
 ghost use Rattle.book.specs.declared.faults.DayFault.TheVariants.{NotLawful};
 
 use crate::days::Day;
@@ -24,22 +24,22 @@ pub struct LawfulDay {
 
 impl Model for LawfulDay {
     ghost use Rattle.std.specs.Prelude.{◌≡◌, true};
-    ghost use Rattle.book.specs.Days.{is_lawful};
+    ghost use Rattle.book.specs.Days.{is_lawful_day};
     ghost use Rattle.book.specs.declared.days.Day.{Day};
 
     ghost Value = { Day };
 
     ghost view = { λ l. l.day };
 
-    ghost invariant = { λ l. is_lawful l.day ≡ true };
+    ghost invariant = { λ l. is_lawful_day l.day ≡ true };
 
     ghost inverse = { λ d. record { day = d } };
 }
 
 // Night opening on the first date; day opening, afternoon opening and close on the next, in this order, the afternoon before
 // the close; the cut between day opening and close.
-fn is_lawful(day: &Day) -> bool
-    ensures { result ≡ is_lawful day.now }
+fn is_lawful_day(day: &Day) -> bool
+    ensures { result ≡ is_lawful_day day.now }
 {
     // Comparisons joined by `&`: with `&&` for them, or with `contains` of a range for the first two, the goal stays open.
     let night = (0 <= day.night) & (day.night <= EVENING_END);
@@ -53,9 +53,9 @@ impl LawfulDay {
     /// The day record, if it is lawful; `NotLawful` if it is not.
     // `TryFrom` would read no plainer: `LawfulDay::new` says what is made.
     pub fn new(day: Day) -> Result<LawfulDay, DayFault>
-        ensures { MatchResult result (λ l. (is_lawful day ≡ true) × (l ≡ day)) (λ f. (is_lawful day ≡ false) × (f ≡ NotLawful)) }
+        ensures { MatchResult result (λ l. (is_lawful_day day ≡ true) × (l ≡ day)) (λ f. (is_lawful_day day ≡ false) × (f ≡ NotLawful)) }
     {
-        if !is_lawful(&day) {
+        if !is_lawful_day(&day) {
             return Err(DayFault::NotLawful);
         }
         Ok(LawfulDay { day })
@@ -79,7 +79,7 @@ impl LawfulDay {
     /// The day record.
     pub fn day(&self) -> Day
         ensures value { result ≡ self.now }
-        ensures lawful { is_lawful result ≡ true }
+        ensures lawful { is_lawful_day result ≡ true }
     {
         self.day
     }

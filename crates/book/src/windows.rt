@@ -1,6 +1,6 @@
 // The thirteen windows of a day, each a first and a last second, both included. A window is empty where the first is later.
 ghost use Rattle.std.specs.Prelude.{◌≡◌};
-ghost use Rattle.book.specs.Windows.{before, edges, windows};
+ghost use Rattle.book.specs.Windows.{second_before, edges, windows};
 
 use crate::days::Day;
 
@@ -34,14 +34,14 @@ const AT_15_45: i64 = 143_100;
 const NOTHING: (i64, i64) = (1, 0);
 
 // The second before a stamp. None lies before second 0, so that from there down a stamp stays as it is.
-fn before(stamp: i64) -> i64
-    ensures { result ≡ before stamp }
+fn second_before(stamp: i64) -> i64
+    ensures { result ≡ second_before stamp }
 {
     if 0 < stamp { stamp - 1 } else { stamp }
 }
 
-/// The windows of the day by their numbers, each a first and a last second, both included: the rules have them as pairs. Number 0
-/// is no window, and empty.
+/// The windows of the day by their numbers, each a first and a last second, both included, from the midnight that begins the evening
+/// session's date: the rules have them as pairs. Number 0 is no window, and empty.
 pub fn windows(day: &Day) -> [(i64, i64); 14]
     ensures { result ≡ windows day.now }
 {
@@ -57,13 +57,13 @@ pub fn windows(day: &Day) -> [(i64, i64); 14]
         (day.opening, AT_11_02),
         (day.night, AT_11_02),
         (AT_10_45, AT_11_00),
-        (day.opening, before(day.cut)),
-        (day.night, before(day.cut)),
-        (AT_10_45, before(day.cut)),
+        (day.opening, second_before(day.cut)),
+        (day.night, second_before(day.cut)),
+        (AT_10_45, second_before(day.cut)),
     ]
 }
 
-/// The first and the last second of a window of the day; of a number that no window has, an empty one. The window is a raw
+/// The first and the last second of a window of the day, from the same midnight; of a number that no window has, an empty one. The window is a raw
 /// number, since a narrower type would ask more of callers.
 pub fn edges(day: &Day, window: u8) -> (i64, i64)
     ensures { result ≡ edges day.now window }

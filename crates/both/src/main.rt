@@ -19,7 +19,7 @@ use ladders::bands::Band;
 use ladders::faults::LadderFault;
 use ladders::sets::{EvenSet, LadderSet, SteppedSet};
 use rows::places::Edition;
-use runs::comparing::{Answers, compare_makes};
+use runs::comparing::{Outcomes, compare_makes};
 use tape::tapes::{BLANK, Tape};
 
 // A small day: more entries than these find the books full. It stands in `figures` too: the two programs have no crate of their
@@ -88,7 +88,7 @@ fn ask(
     calls: &[Call],
     series: i64,
     edition: Edition,
-) -> Answers {
+) -> Outcomes {
     let mut slots = [BLANK; PLACES];
     compare_makes(
         day, even, PLACES, calls, stepped, &mut slots, calls, series, edition,

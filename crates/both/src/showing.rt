@@ -5,7 +5,7 @@ use house::faults::HouseFault;
 use std::fmt;
 
 // A refusal: its number, and the origin where it has one. What is printed of a fault is this program's own, so a newtype
-// here and no Display for HouseFault.
+// here and not the fault's own Display.
 #[derive(Clone, Copy)]
 struct Refusal(HouseFault);
 

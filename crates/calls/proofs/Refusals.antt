@@ -4,7 +4,7 @@ use Rattle.std.proofs.lemmas.Bool.{true≢false}
 use Rattle.book.specs.Ledgers.{Ledger, with_taken}
 use Rattle.house.specs.Calls.{State, entry_answer, listed_terms, moved, ruling_answer, rung, theory_answer, ok_with}
 use Rattle.house.specs.declared.faults.HouseFault.{HouseFault}
-use Rattle.calls.specs.Worlds.{World, as_listed, is_taken, next}
+use Rattle.calls.specs.Worlds.{World, as_listed, is_taken, after_call}
 use Rattle.calls.specs.declared.call.Call.{Call}
 use Rattle.calls.specs.declared.call.Call.TheVariants.{List as ListCall, Ring, Enter, SetTheory, SetRuling, Settle}
 
@@ -20,9 +20,9 @@ listed_ok n (Err f) = refl
 
 -- ---- what was found, or that nothing moved
 
-pub found : {A E : Type 0} (r : Result A E) → is_ok r ≡ true → (a : A) × (r ≡ Ok a)
-found (Ok a) h = (a, refl)
-found (Err f) h = absurd (true≢false (sym h))
+pub ok_value : {A E : Type 0} (r : Result A E) → is_ok r ≡ true → (a : A) × (r ≡ Ok a)
+ok_value (Ok a) h = (a, refl)
+ok_value (Err f) h = absurd (true≢false (sym h))
 
 stays : {A S : Type 0} (r : Result A HouseFault) (move : A → S) (s : S) → is_ok r ≡ false → moved r move s ≡ s
 stays (Ok a) move s h = absurd (true≢false h)
@@ -30,7 +30,7 @@ stays (Err f) move s h = refl
 
 -- a refused call leaves the house and the book as they were
 pub refused_stays : (ladders : ℕ) (lawful : ℕ → ℤ → Bool) (c : Call) (w : World) → is_taken ladders lawful c w ≡ false
-    → next ladders lawful c w ≡ w
+    → after_call ladders lawful c w ≡ w
 refused_stays ladders lawful (ListCall t) w h =
     let r = listed_terms ladders t w.state in
     ap (λ (s : State). record { state = s; book = w.book }) (stays r _ w.state (sym (listed_ok w.state.roll.count r) ∙ h))

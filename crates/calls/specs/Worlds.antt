@@ -46,13 +46,13 @@ reply ladders lawful (SetRuling n value first) w = ok_with Done (ruling_answer n
 reply ladders lawful (Settle n edition) w = as_settled n (settle_answer lawful edition n w.state w.book)
 
 -- an entry is for the book, a question changes nothing, and all else is for the house
-abbrev pub next : ℕ → (ℕ → ℤ → Bool) → Call → World → World
-next ladders lawful (ListCall t) w = record { state = list_after ladders t w.state; book = w.book }
-next ladders lawful (Ring b) w = record { state = bell_after b w.state; book = w.book }
-next ladders lawful (Enter e) w = record { state = w.state; book = entry_after lawful e w.state w.book }
-next ladders lawful (SetTheory n value) w = record { state = theory_after n value w.state; book = w.book }
-next ladders lawful (SetRuling n value first) w = record { state = ruling_after n value first w.state; book = w.book }
-next ladders lawful (Settle n edition) w = w
+abbrev pub after_call : ℕ → (ℕ → ℤ → Bool) → Call → World → World
+after_call ladders lawful (ListCall t) w = record { state = list_after ladders t w.state; book = w.book }
+after_call ladders lawful (Ring b) w = record { state = bell_after b w.state; book = w.book }
+after_call ladders lawful (Enter e) w = record { state = w.state; book = entry_after lawful e w.state w.book }
+after_call ladders lawful (SetTheory n value) w = record { state = theory_after n value w.state; book = w.book }
+after_call ladders lawful (SetRuling n value first) w = record { state = ruling_after n value first w.state; book = w.book }
+after_call ladders lawful (Settle n edition) w = w
 
 abbrev pub is_taken : ℕ → (ℕ → ℤ → Bool) → Call → World → Bool
 is_taken ladders lawful c w = is_ok (reply ladders lawful c w)

@@ -1,7 +1,7 @@
 // One call made on a house and its book.
 ghost use Rattle.std.specs.Prelude.{◌≡◌, OnErr};
 ghost use Rattle.house.specs.Houses.{set_of};
-ghost use Rattle.calls.specs.Worlds.{next, reply, world};
+ghost use Rattle.calls.specs.Worlds.{after_call, reply, world};
 
 use crate::call::{Call, Reply};
 use book::books::Book;
@@ -21,7 +21,7 @@ pub fn perform<L: LadderSet, B: Book>(
         result ≡ reply (L.size (set_of house.old)) (L.lawful (set_of house.old)) call.now before }
     ensures after { let before = world house.old (B.meaning book.old) in
         world house.new (B.meaning book.new)
-        ≡ next (L.size (set_of house.old)) (L.lawful (set_of house.old)) call.now before }
+        ≡ after_call (L.size (set_of house.old)) (L.lawful (set_of house.old)) call.now before }
     ensures set { set_of house.new ≡ set_of house.old }
     ensures refused { OnErr result (world house.new (B.meaning book.new) ≡ world house.old (B.meaning book.old)) }
 {

@@ -1,7 +1,7 @@
 -- What a desk answers to a line's call, and what the desk and its book hold afterwards.
 use Rattle.std.specs.Prelude.{ℕ, Bool, cond, List, length, ℤ, is_ok, Some, None, Ok, Err, Option, Result, unsigned_abs}
 use Rattle.std.specs.Option.{option_map}
-use Rattle.book.specs.Days.{is_lawful}
+use Rattle.book.specs.Days.{is_lawful_day}
 use Rattle.book.specs.Ledgers.{Ledger, fresh}
 use Rattle.book.specs.declared.days.Day.{Day}
 use Rattle.book.specs.declared.faults.DayFault.TheVariants.{NotLawful}
@@ -16,12 +16,12 @@ use Rattle.house.specs.Calls.{State, new_state}
 use Rattle.house.specs.Houses.{set_of, state}
 use Rattle.house.specs.declared.faults.HouseFault.{HouseFault}
 use Rattle.house.specs.declared.houses.House.{House}
-use Rattle.calls.specs.Worlds.{World, next, reply}
+use Rattle.calls.specs.Worlds.{World, after_call, reply}
 use Rattle.calls.specs.declared.call.Call.{Call}
 use Rattle.calls.specs.declared.call.Reply.{Reply}
 use Rattle.calls.specs.declared.call.Reply.TheVariants.{Done}
 use Rattle.lines.specs.declared.line_calls.LineCall.{LineCall}
-use Rattle.lines.specs.declared.line_calls.LineCall.TheVariants as lines
+use Rattle.lines.specs.declared.line_calls.LineCall.TheVariants as line_calls
 use Rattle.lines.specs.declared.faults.NotRead.{NotRead}
 use Rattle.answers.specs.declared.faults.LineFault.{LineFault}
 use Rattle.answers.specs.declared.faults.LineFault.TheVariants as faults
@@ -36,17 +36,17 @@ pub record Begun : Type 0 where
   pub state : State
 
 -- a desk and the book that is lent to it; nothing has begun before a day line
-pub record Standing : Type 0 where
+pub record DeskState : Type 0 where
   pub begun : Option Begun
   pub book : Ledger
 
 abbrev pub begun_by : {bound : _} → House (SetOf Tick) bound → Begun
 begun_by h = record { ladders = size_of (set_of h); lawful = even_prices (set_of h); state = state h }
 
-abbrev pub standing : Desk → Ledger → Standing
-standing d m = record { begun = option_map begun_by d.house; book = m }
+abbrev pub desk_state : Desk → Ledger → DeskState
+desk_state d m = record { begun = option_map begun_by d.house; book = m }
 
-abbrev pub waiting : Ledger → Standing
+abbrev pub waiting : Ledger → DeskState
 waiting m = record { begun = None; book = m }
 
 -- ---- the day line
@@ -61,10 +61,10 @@ unless_unlawful (Some f) = Err (faults.Ladders f)
 
 -- an unlawful day record is refused before an unlawful tick
 abbrev pub day_answer : Day → List ℤ → Result Reply LineFault
-day_answer d ticks = cond (is_lawful d) (unless_unlawful (set_fault tick_fault ticks)) (Err (faults.Day NotLawful))
+day_answer d ticks = cond (is_lawful_day d) (unless_unlawful (set_fault tick_fault ticks)) (Err (faults.Day NotLawful))
 
 -- a new house over these ladders, and a new book of the day, with as many places as before
-abbrev pub day_begun : Day → List ℤ → Ledger → Standing
+abbrev pub day_begun : Day → List ℤ → Ledger → DeskState
 day_begun d ticks m = record {
   begun = Some (record { ladders = length ticks; lawful = on_ticks ticks; state = new_state });
   book = fresh d m.capacity;
@@ -83,39 +83,39 @@ abbrev pub house_answer : Begun → Ledger → Call → Result Reply LineFault
 house_answer b m c = by_house (reply b.ladders b.lawful c (world_of b m))
 
 -- the ladders stay
-abbrev pub house_after : Begun → Ledger → Call → Standing
+abbrev pub house_after : Begun → Ledger → Call → DeskState
 house_after b m c = record {
-  begun = Some (record { ladders = b.ladders; lawful = b.lawful; state = (next b.ladders b.lawful c (world_of b m)).state });
-  book = (next b.ladders b.lawful c (world_of b m)).book;
+  begun = Some (record { ladders = b.ladders; lawful = b.lawful; state = (after_call b.ladders b.lawful c (world_of b m)).state });
+  book = (after_call b.ladders b.lawful c (world_of b m)).book;
 }
 
 -- ---- every call of a line
 
 -- there is one day line: before it no other call is taken, and after it no other day line
 abbrev pub desk_answer : Option Begun → Ledger → LineCall → Result Reply LineFault
-desk_answer None m (lines.Day d ticks) = day_answer d ticks
-desk_answer None m (lines.Call c) = Err faults.NoDay
-desk_answer (Some b) m (lines.Day d ticks) = Err faults.SecondDay
-desk_answer (Some b) m (lines.Call c) = house_answer b m c
+desk_answer None m (line_calls.Day d ticks) = day_answer d ticks
+desk_answer None m (line_calls.Call c) = Err faults.NoDay
+desk_answer (Some b) m (line_calls.Day d ticks) = Err faults.SecondDay
+desk_answer (Some b) m (line_calls.Call c) = house_answer b m c
 
-abbrev pub desk_after : Option Begun → Ledger → LineCall → Standing
-desk_after None m (lines.Day d ticks) = cond (is_ok (day_answer d ticks)) (day_begun d ticks m) (waiting m)
-desk_after None m (lines.Call c) = waiting m
-desk_after (Some b) m (lines.Day d ticks) = record { begun = Some b; book = m }
-desk_after (Some b) m (lines.Call c) = house_after b m c
+abbrev pub desk_after : Option Begun → Ledger → LineCall → DeskState
+desk_after None m (line_calls.Day d ticks) = cond (is_ok (day_answer d ticks)) (day_begun d ticks m) (waiting m)
+desk_after None m (line_calls.Call c) = waiting m
+desk_after (Some b) m (line_calls.Day d ticks) = record { begun = Some b; book = m }
+desk_after (Some b) m (line_calls.Call c) = house_after b m c
 
-abbrev pub call_answer : Standing → LineCall → Result Reply LineFault
+abbrev pub call_answer : DeskState → LineCall → Result Reply LineFault
 call_answer s c = desk_answer s.begun s.book c
 
-abbrev pub call_after : Standing → LineCall → Standing
+abbrev pub call_after : DeskState → LineCall → DeskState
 call_after s c = desk_after s.begun s.book c
 
 -- ---- a line as it was read: one that is not of the grammar is refused with its place, and changes nothing
 
-abbrev pub line_answer : Standing → Result LineCall NotRead → Result Reply LineFault
+abbrev pub line_answer : DeskState → Result LineCall NotRead → Result Reply LineFault
 line_answer s (Ok c) = call_answer s c
 line_answer s (Err e) = Err (faults.NotRead e)
 
-abbrev pub line_after : Standing → Result LineCall NotRead → Standing
+abbrev pub line_after : DeskState → Result LineCall NotRead → DeskState
 line_after s (Ok c) = call_after s c
 line_after s (Err e) = s

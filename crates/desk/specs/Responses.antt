@@ -8,10 +8,10 @@ use Rattle.answers.specs.Texts.{answer_text}
 use Rattle.answers.specs.Written.{Replied}
 use Rattle.answers.specs.declared.faults.LineFault.{LineFault}
 use Rattle.answers.specs.declared.faults.LineFault.TheVariants.{ShortBuffer}
-use Rattle.desk.specs.Desks.{Standing, line_after, line_answer}
+use Rattle.desk.specs.Desks.{DeskState, line_after, line_answer}
 
 -- the line is read by the grammar, in the one way there is; what was read is answered, and what then stands is told
-pub record LineAnswered (line : List ℕ) (s : Standing) (answer : Result Reply LineFault) (t : Standing) : Type 0 where
+pub record LineAnswered (line : List ℕ) (s : DeskState) (answer : Result Reply LineFault) (t : DeskState) : Type 0 where
   pub read : Result LineCall NotRead
   pub parsed : Parsed line read
   pub answered : answer ≡ line_answer s read
@@ -19,6 +19,6 @@ pub record LineAnswered (line : List ℕ) (s : Standing) (answer : Result Reply 
 
 -- a buffer of fewer than 96 bytes is refused before the line is looked at, and nothing changes; else the answer's bytes stand at
 -- the front of the buffer, and the bytes after them are as they were
-pub record Responded (line : List ℕ) (s : Standing) (old : List ℕ) (r : Result ℕ LineFault) (new : List ℕ) (t : Standing) : Type 0 where
+pub record Responded (line : List ℕ) (s : DeskState) (old : List ℕ) (r : Result ℕ LineFault) (new : List ℕ) (t : DeskState) : Type 0 where
   pub short : length old < 96 → (r ≡ Err ShortBuffer) × (new ≡ old) × (t ≡ s)
   pub long : 96 ≤ length old → (answer : Result Reply LineFault) × LineAnswered line s answer t × Replied (answer_text answer) old r new

@@ -4,7 +4,7 @@
 ghost use Rattle.std.specs.Prelude.{◌≡◌, ◌≤◌, IfErr, IfOk};
 ghost use Rattle.book.specs.Ledgers.{Ledger};
 ghost use Rattle.lines.specs.Spelled.{OneReading};
-ghost use Rattle.desk.specs.Desks.{call_after, call_answer, standing, waiting};
+ghost use Rattle.desk.specs.Desks.{call_after, call_answer, desk_state, waiting};
 ghost use Rattle.desk.specs.Responses.{LineAnswered, Responded};
 
 use answers::faults::LineFault;
@@ -29,7 +29,7 @@ pub struct Desk {
 impl Desk {
     /// A desk before any day line.
     pub fn new() -> Desk
-        ensures { (m : Ledger) → standing result m ≡ waiting m }
+        ensures { (m : Ledger) → desk_state result m ≡ waiting m }
     {
         Desk { house: None }
     }
@@ -41,8 +41,8 @@ impl Desk {
         day: Day,
         ticks: &[i64],
     ) -> Result<Reply, LineFault>
-        ensures answer { result ≡ call_answer (standing self.old (B.Book.meaning book.old)) (LineCall.Day day ticks.now) }
-        ensures after { standing self.new (B.Book.meaning book.new) ≡ call_after (standing self.old (B.Book.meaning book.old)) (LineCall.Day day ticks.now) }
+        ensures answer { result ≡ call_answer (desk_state self.old (B.meaning book.old)) (LineCall.Day day ticks.now) }
+        ensures after { desk_state self.new (B.meaning book.new) ≡ call_after (desk_state self.old (B.meaning book.old)) (LineCall.Day day ticks.now) }
     {
         if self.house.is_some() {
             return Err(LineFault::SecondDay);
@@ -56,8 +56,8 @@ impl Desk {
 
     // Hands a call to the house, if there is one.
     fn hand<B: Reusable>(&mut self, book: &mut B, call: &Call) -> Result<Reply, LineFault>
-        ensures answer { result ≡ call_answer (standing self.old (B.Book.meaning book.old)) (LineCall.Call call.now) }
-        ensures after { standing self.new (B.Book.meaning book.new) ≡ call_after (standing self.old (B.Book.meaning book.old)) (LineCall.Call call.now) }
+        ensures answer { result ≡ call_answer (desk_state self.old (B.meaning book.old)) (LineCall.Call call.now) }
+        ensures after { desk_state self.new (B.meaning book.new) ≡ call_after (desk_state self.old (B.meaning book.old)) (LineCall.Call call.now) }
     {
         let Some(house) = self.house.as_mut() else {
             return Err(LineFault::NoDay);
@@ -68,9 +68,10 @@ impl Desk {
     /// Makes a call, or refuses it and changes nothing. The fault tells why: no day line yet, a further one, or what the day record,
     /// the ladders or the house refuse.
     pub fn call<B: Reusable>(&mut self, book: &mut B, call: LineCall) -> Result<Reply, LineFault>
-        ensures answer { result ≡ call_answer (standing self.old (B.Book.meaning book.old)) call }
-        ensures after { standing self.new (B.Book.meaning book.new) ≡ call_after (standing self.old (B.Book.meaning book.old)) call }
-        ensures refused { IfErr result (λ _. standing self.new (B.Book.meaning book.new) ≡ standing self.old (B.Book.meaning book.old)) }
+        ensures answer { result ≡ call_answer (desk_state self.old (B.meaning book.old)) call }
+        ensures after { desk_state self.new (B.meaning book.new) ≡ call_after (desk_state self.old (B.meaning book.old)) call }
+        ensures refused { let before = desk_state self.old (B.meaning book.old) in
+            IfErr result (λ _. desk_state self.new (B.meaning book.new) ≡ before) }
     {
         match call {
             LineCall::Day { day, ticks } => self.begin(book, day, &ticks),
@@ -80,8 +81,10 @@ impl Desk {
 
     // Reads a line and makes its call.
     fn answer_line<B: Reusable>(&mut self, book: &mut B, line: &[u8]) -> Result<Reply, LineFault>
-        ensures answered { LineAnswered line.now (standing self.old (B.Book.meaning book.old)) result (standing self.new (B.Book.meaning book.new)) }
-        ensures refused { IfErr result (λ _. standing self.new (B.Book.meaning book.new) ≡ standing self.old (B.Book.meaning book.old)) }
+        ensures answered { let before = desk_state self.old (B.meaning book.old) in
+            LineAnswered line.now before result (desk_state self.new (B.meaning book.new)) }
+        ensures refused { let before = desk_state self.old (B.meaning book.old) in
+            IfErr result (λ _. desk_state self.new (B.meaning book.new) ≡ before) }
     {
         let call = parse(line)?;
         self.call(book, call)
@@ -95,7 +98,8 @@ impl Desk {
         line: &[u8],
         out: &mut [u8],
     ) -> Result<usize, LineFault>
-        ensures responded { Responded line.now (standing self.old (B.Book.meaning book.old)) out.old result out.new (standing self.new (B.Book.meaning book.new)) }
+        ensures responded { let before = desk_state self.old (B.meaning book.old) in
+            Responded line.now before out.old result out.new (desk_state self.new (B.meaning book.new)) }
         ensures short { IfOk result (λ n. n ≤ 96) }
         ensures reading { OneReading }
     {

@@ -1,7 +1,7 @@
 -- Calls that met their demands, and calls that did not.
 use Rattle.std.proofs.Common.{◌≡◌, ℕ, Bool, true, false, ℤ, is_ok, Ok, Err, Result, sym, refl, ap, ◌∙◌, ⊎_elim, arith}
 use Rattle.std.proofs.lemmas.Bool.{both_ways, cond-true}
-use Rattle.book.specs.Ledgers.{Ledger, after, answer, with_taken}
+use Rattle.book.specs.Ledgers.{Ledger, take_after, take_answer, with_taken}
 use Rattle.book.specs.declared.days.Day.{Day}
 use Rattle.book.specs.declared.entries.Entry.{Entry}
 use Rattle.book.specs.declared.faults.BookFault.{BookFault}
@@ -18,11 +18,11 @@ met true f x y is = (refl, grind arith)
 met false f x y is = absurd (both_ways (is_ok {E = HouseFault} (Ok x)) (ap is_ok is) refl)
 
 -- the book grows by an entry that it takes, and stays as it is where it refuses one
-pub book_moves : (m : Ledger) (e : Entry) → after m e ≡ moved (by_book (answer m e)) (λ _. with_taken m e) m
+pub book_moves : (m : Ledger) (e : Entry) → take_after m e ≡ moved (by_book (take_answer m e)) (λ _. with_taken m e) m
 book_moves m e =
     ⊎_elim
-    (λ p. p.1 ∙ sym (takes (answer m e) p.0))
-    (λ p. p.1 ∙ sym (refuses (answer m e) p.0))
+    (λ p. p.1 ∙ sym (takes (take_answer m e) p.0))
+    (λ p. p.1 ∙ sym (refuses (take_answer m e) p.0))
     (taken_or_refused m e)
   where
     takes : (r : Result Unit BookFault) → is_ok r ≡ true → moved (by_book r) (λ _. with_taken m e) m ≡ with_taken m e
@@ -43,8 +43,8 @@ passed lawful d e s x trading found =
     ∙ sym (cond-true (is_trading s.phase) (demand (is_listed s.roll.count e.series) NoSuchSeries check) (Err WrongPhase) trading)
 
 -- what the house lets pass, the book answers
-pub passed_on : (lawful : ℕ → ℤ → Bool) (d : Day) (e : Entry) (s : State) (m : Ledger) → d ≡ m.day → Ok tt ≡ entry_passed lawful d e s → (by_book (answer m e) ≡ entry_answer lawful m e s) × (after m e ≡ entry_after lawful e s m)
+pub passed_on : (lawful : ℕ → ℤ → Bool) (d : Day) (e : Entry) (s : State) (m : Ledger) → d ≡ m.day → Ok tt ≡ entry_passed lawful d e s → (by_book (take_answer m e) ≡ entry_answer lawful m e s) × (take_after m e ≡ entry_after lawful e s m)
 passed_on lawful d e s m day ok =
     let same : Ok tt ≡ entry_passed lawful m.day e s = ok ∙ ap (λ k. entry_passed lawful k e s) day in
-    let answers : by_book (answer m e) ≡ entry_answer lawful m e s = ap (λ r. then r (by_book (answer m e))) same in
+    let answers : by_book (take_answer m e) ≡ entry_answer lawful m e s = ap (λ r. then r (by_book (take_answer m e))) same in
     (answers, book_moves m e ∙ ap (λ r. moved r (λ _. with_taken m e) m) answers)

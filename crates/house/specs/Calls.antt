@@ -1,7 +1,7 @@
 -- What each call of the house answers, and what the house and the book hold afterwards.
 use Rattle.std.specs.Prelude.{ℕ, Bool, true, false, cond, not, ◌&&◌, ℤ, Some, None, Ok, Err, Option, Result, nat_lt, unsigned_abs}
 use Rattle.book.specs.Entries.{allowed, price_lawful, side_lawful}
-use Rattle.book.specs.Ledgers.{Ledger, answer, with_taken}
+use Rattle.book.specs.Ledgers.{Ledger, take_answer, with_taken}
 use Rattle.book.specs.declared.days.Day.{Day}
 use Rattle.book.specs.declared.entries.Entry.{Entry}
 use Rattle.book.specs.declared.entries.Kind.{Kind}
@@ -145,7 +145,7 @@ by_book (Err fault) = Err (Book fault)
 
 -- and then the book answers
 abbrev pub entry_answer : (ℕ → ℤ → Bool) → Ledger → Entry → State → Result Unit HouseFault
-entry_answer lawful m e s = then (entry_passed lawful m.day e s) (by_book (answer m e))
+entry_answer lawful m e s = then (entry_passed lawful m.day e s) (by_book (take_answer m e))
 
 -- the book takes what the house does not refuse; the house stays as it is
 abbrev pub entry_after : (ℕ → ℤ → Bool) → Entry → State → Ledger → Ledger

@@ -1,6 +1,6 @@
 -- A house as its contracts see it: its ladder set, and its state.
 use Rattle.house.specs.Calls.{State}
-use Rattle.house.specs.Listings.{roll_of}
+use Rattle.house.specs.ListedRoll.{roll_of}
 use Rattle.house.specs.declared.houses.House.{House}
 
 -- `bound` is what it gives that L is a ladder set, here and wherever a house is named

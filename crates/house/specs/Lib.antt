@@ -3,7 +3,7 @@ pub mod Terms
 pub mod Series
 pub mod Rolls
 pub mod Calls
-pub mod Listings
+pub mod ListedRoll
 pub mod Houses
 pub mod Found
 pub mod Answers
@@ -12,4 +12,4 @@ pub mod Reach
 pub mod Meaning
 pub mod ByPath
 pub mod Worked
-pub mod Stations
+pub mod QuestionStation

@@ -16,7 +16,7 @@ use book::books::Book;
 use book::days::Day;
 use book::entries::{Entry, Kind, SERIES, is_allowed, is_price, is_side};
 use book::faults::BookFault;
-use ladders::rounding::is_lawful;
+use ladders::rounding::is_lawful_price;
 use ladders::sets::LadderSet;
 use rows::families::Family;
 
@@ -113,7 +113,7 @@ impl<L: LadderSet> House<L> {
     fn is_side_on_ladder(&self, ladder: u8, side: Option<i64>) -> bool
         ensures { result ≡ side_on_ladder (L.lawful (set_of self.now) ladder) side }
     {
-        side.is_none_or(|price| is_lawful(&self.set, ladder, price))
+        side.is_none_or(|price| is_lawful_price(&self.set, ladder, price))
     }
 
     // Whether the prices of an entry are on the ladder.
@@ -123,9 +123,9 @@ impl<L: LadderSet> House<L> {
         match kind {
             // Three arms of one body: an or-pattern gets no proof where it binds an `i64`, which the prover then takes for
             // unsigned.
-            Kind::Trade { price, .. } => is_lawful(&self.set, ladder, price),
-            Kind::Auction { price, .. } => is_lawful(&self.set, ladder, price),
-            Kind::Leg { price, .. } => is_lawful(&self.set, ladder, price),
+            Kind::Trade { price, .. } => is_lawful_price(&self.set, ladder, price),
+            Kind::Auction { price, .. } => is_lawful_price(&self.set, ladder, price),
+            Kind::Leg { price, .. } => is_lawful_price(&self.set, ladder, price),
             Kind::Spread { .. } => true,
             Kind::Quote { bid, ask } => {
                 self.is_side_on_ladder(ladder, bid) && self.is_side_on_ladder(ladder, ask)
@@ -164,9 +164,9 @@ impl<L: LadderSet> House<L> {
     /// `NoSuchSeries`, beyond the limits with the book's `BeyondLimits`, as a spread outside family 2 with `SpreadNotFollowing`, with
     /// a price off its ladder with `OffLadder`, and by a full book with its `Full`, in this order.
     pub fn enter<B: Book>(&self, book: &mut B, entry: Entry) -> Result<(), HouseFault>
-        ensures answer { result ≡ entry_answer (L.LadderSet.lawful (set_of self.now)) (B.Book.meaning book.old) entry (state self.now) }
-        ensures after { B.Book.meaning book.new ≡ entry_after (L.LadderSet.lawful (set_of self.now)) entry (state self.now) (B.Book.meaning book.old) }
-        ensures refused { IfErr result (λ _. B.Book.meaning book.new ≡ B.Book.meaning book.old) }
+        ensures answer { result ≡ entry_answer (L.lawful (set_of self.now)) (B.meaning book.old) entry (state self.now) }
+        ensures after { B.meaning book.new ≡ entry_after (L.lawful (set_of self.now)) entry (state self.now) (B.meaning book.old) }
+        ensures refused { IfErr result (λ _. B.meaning book.new ≡ B.meaning book.old) }
     {
         self.pass(&book.day(), &entry)?;
         book.take(entry)?;

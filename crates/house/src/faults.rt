@@ -1,7 +1,7 @@
 // Why the house refuses a call: the number that each refusal is known by, and its text.
 ghost use Rattle.std.specs.Prelude.{◌≡◌, Some};
 ghost use Rattle.house.specs.Faults.{house_number, house_reason};
-ghost use Rattle.house.specs.declared.faults.HouseFault.TheVariants as refused;
+ghost use Rattle.house.specs.declared.faults.HouseFault.TheVariants as faults;
 
 use book::faults::BookFault;
 use rows::families::NoSuchFamily;
@@ -25,7 +25,7 @@ pub enum HouseFault {
     OffLadder,
     /// A spread for a series that does not follow another.
     SpreadNotFollowing,
-    /// No step finds a price for the series, for want of one for the origin.
+    /// No step finds a price for the series, for want of one for the origin, whose number this is.
     NoPrice(u8),
     /// What the book refused, or would.
     Book(BookFault),
@@ -72,7 +72,7 @@ impl fmt::Display for HouseFault {
 impl Error for HouseFault {}
 
 impl From<BookFault> for HouseFault {
-    ghost from_gives = { λ f r. r ≡ refused.Book f };
+    ghost from_gives = { λ f r. r ≡ faults.Book f };
 
     fn from(refusal: BookFault) -> HouseFault {
         HouseFault::Book(refusal)
@@ -80,7 +80,7 @@ impl From<BookFault> for HouseFault {
 }
 
 impl From<NoSuchFamily> for HouseFault {
-    ghost from_gives = { λ _ r. r ≡ refused.TermsNotLawful };
+    ghost from_gives = { λ _ r. r ≡ faults.TermsNotLawful };
 
     fn from(_refusal: NoSuchFamily) -> Self {
         Self::TermsNotLawful

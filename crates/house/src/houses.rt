@@ -1,5 +1,5 @@
 // The house.
-ghost use Rattle.house.specs.Listings.{roll_of};
+ghost use Rattle.house.specs.ListedRoll.{roll_of};
 ghost use Rattle.house.specs.Rolls.{OnLadders};
 
 use crate::listed::Listed;

@@ -44,7 +44,7 @@ pub struct Listed {
 }
 
 impl Listed {
-    ghost use Rattle.house.specs.Listings.{roll_of};
+    ghost use Rattle.house.specs.ListedRoll.{roll_of};
 
     pub(crate) fn new() -> Listed
         ensures { roll_of result ≡ none_listed }

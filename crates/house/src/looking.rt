@@ -28,14 +28,14 @@ fn less(number: u8, reference: Option<i64>, spread: Option<i64>) -> Option<i64>
 impl<L: LadderSet, B: Book> Question<'_, L, B> {
     // The lawful price closest to a fraction, on the ladder of the series.
     fn nearest(&self, fraction: (i64, u32)) -> Option<i64>
-        ensures { result ≡ nearest_price (L.LadderSet.lawful self.now.set.now self.now.series.terms.ladder) fraction.0 fraction.1 }
+        ensures { result ≡ nearest_price (L.lawful self.now.set.now self.now.series.terms.ladder) fraction.0 fraction.1 }
     {
         nearest(self.set, self.series.terms.ladder, fraction)
     }
 
     // Nearest of the middle of the last quote, if that has both sides.
     fn quoted(&self, quote: Option<Sides>) -> Option<i64>
-        ensures { result ≡ quoted (L.LadderSet.lawful self.now.set.now self.now.series.terms.ladder) quote }
+        ensures { result ≡ quoted (L.lawful self.now.set.now self.now.series.terms.ladder) quote }
     {
         let Sides { bid, ask } = quote?;
         self.nearest((i64::from(bid?) + i64::from(ask?), 2))
@@ -44,19 +44,19 @@ impl<L: LadderSet, B: Book> Question<'_, L, B> {
     // Nearest of money over lots.
     fn average(&self, money: i64, lots: i64) -> Option<i64>
         requires { unsigned_abs lots ≤ 3000000000 }
-        ensures { result ≡ average (L.LadderSet.lawful self.now.set.now self.now.series.terms.ladder) money lots }
+        ensures { result ≡ average (L.lawful self.now.set.now self.now.series.terms.ladder) money lots }
     {
         self.nearest((money, lots.unsigned_abs() as u32))
     }
 
     fn nearest_theory(&self) -> Option<i64>
-        ensures { result ≡ nearest_theory (L.LadderSet.lawful self.now.set.now self.now.series.terms.ladder) self.now.series.theory }
+        ensures { result ≡ nearest_theory (L.lawful self.now.set.now self.now.series.terms.ladder) self.now.series.theory }
     {
         self.nearest((self.series.theory?, 1))
     }
 
     fn above_theory(&self) -> Option<i64>
-        ensures { result ≡ above_theory (L.LadderSet.lawful self.now.set.now self.now.series.terms.ladder) self.now.series.theory }
+        ensures { result ≡ above_theory (L.lawful self.now.set.now self.now.series.terms.ladder) self.now.series.theory }
     {
         self.set
             .above(self.series.terms.ladder, self.series.theory?)
@@ -65,7 +65,7 @@ impl<L: LadderSet, B: Book> Question<'_, L, B> {
     // What a step finds, with the figures of the step's window.
     pub(crate) fn find(&self, values: &Values, step: Step) -> Option<i64>
         requires { bounded 30000 values.now ≡ true }
-        ensures { result ≡ finds (L.LadderSet.lawful self.now.set.now self.now.series.terms.ladder) (price_of self.now.reference) self.now.series values.now step }
+        ensures { result ≡ finds (L.lawful self.now.set.now self.now.series.terms.ladder) (price_of self.now.reference) self.now.series values.now step }
     {
         let series = &self.series;
         let reference = price_of(self.reference);

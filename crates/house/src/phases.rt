@@ -1,4 +1,6 @@
-// The house's day: listing, then trading, then closed.
+// The phases of a house's day, and the bells between them.
+
+/// The house's day: listing, then trading, then closed.
 #[derive(Clone, Copy, PartialEq, Eq, Debug)]
 pub enum Phase {
     /// Series are listed; at first.

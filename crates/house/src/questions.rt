@@ -29,7 +29,7 @@ fn is_open(phase: Phase, edition: Edition) -> bool
 impl<L: LadderSet> House<L> {
     // The answer for a series, by way of its reference, which is an earlier series.
     fn answer<B: Book>(&self, book: &B, number: u8, edition: Edition) -> Answer
-        ensures value { result ≡ answer_at (L.LadderSet.lawful (set_of self.now)) edition (state self.now) (B.Book.meaning book.now) number }
+        ensures value { result ≡ answer_at (L.lawful (set_of self.now)) edition (state self.now) (B.meaning book.now) number }
         ensures reach { AnswerInReach number result }
     {
         let series = self.listed.get(number);
@@ -58,7 +58,7 @@ impl<L: LadderSet> House<L> {
         series: i64,
         edition: Edition,
     ) -> Result<Settlement, HouseFault>
-        ensures { result ≡ settle_answer (L.LadderSet.lawful (set_of self.now)) edition series (state self.now) (B.Book.meaning book.now) }
+        ensures { result ≡ settle_answer (L.lawful (set_of self.now)) edition series (state self.now) (B.meaning book.now) }
     {
         if !is_open(self.phase, edition) {
             return Err(HouseFault::WrongPhase);
@@ -76,9 +76,9 @@ impl<L: LadderSet> House<L> {
         series: i64,
         edition: Edition,
     ) -> Result<Settlement, HouseFault>
-        ensures answer { result ≡ settle_answer (L.LadderSet.lawful (set_of self.now)) edition series (state self.now) (B.Book.meaning book.now) }
-        ensures path { ByPath (L.LadderSet.lawful (set_of self.now)) edition (state self.now) (B.Book.meaning book.now) series result }
-        ensures meaning { Explained (L.LadderSet.lawful (set_of self.now)) edition (state self.now) (B.Book.meaning book.now) (unsigned_abs series) result }
+        ensures answer { result ≡ settle_answer (L.lawful (set_of self.now)) edition series (state self.now) (B.meaning book.now) }
+        ensures path { ByPath (L.lawful (set_of self.now)) edition (state self.now) (B.meaning book.now) series result }
+        ensures meaning { Explained (L.lawful (set_of self.now)) edition (state self.now) (B.meaning book.now) (unsigned_abs series) result }
     {
         self.answer_to(book, series, edition)
     }

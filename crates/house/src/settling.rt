@@ -85,7 +85,7 @@ fn origin_of(number: u8, reference: Option<Answer>) -> u8
 }
 
 impl<L: LadderSet, B: Book> Question<'_, L, B> {
-    ghost use Rattle.house.specs.Stations.{station_in};
+    ghost use Rattle.house.specs.QuestionStation.{station_in};
 
     // Which of the family's rows settles the series.
     fn choice(&self) -> Choice
@@ -111,7 +111,7 @@ impl<L: LadderSet, B: Book> Question<'_, L, B> {
 
     // What a place of the row finds.
     fn look(&self, place: Place) -> Option<i64>
-        ensures value { result ≡ found (L.LadderSet.lawful self.now.set.now) (price_of self.now.reference) (station_in B.Book.meaning self.now) place }
+        ensures value { result ≡ found (L.lawful self.now.set.now) (price_of self.now.reference) (station_in B.meaning self.now) place }
         ensures reach { InReach self.now.number result }
     {
         // A step that looks in no window reads none of the figures; no window is numbered 0.
@@ -121,7 +121,7 @@ impl<L: LadderSet, B: Book> Question<'_, L, B> {
 
     // The first place of the row that finds a price.
     fn first_found(&self) -> Option<Settlement>
-        ensures value { result ≡ first_found (found (L.LadderSet.lawful self.now.set.now) (price_of self.now.reference) (station_in B.Book.meaning self.now)) 1 (row_of self.now.series self.now.edition) }
+        ensures value { result ≡ first_found (found (L.lawful self.now.set.now) (price_of self.now.reference) (station_in B.meaning self.now)) 1 (row_of self.now.series self.now.edition) }
         ensures reach { FoundInReach self.now.number result }
     {
         // A loop, since it ends at an empty place as well as at a price; the position is told with the price. The places after
@@ -147,7 +147,7 @@ impl<L: LadderSet, B: Book> Question<'_, L, B> {
 
     // Where a refusal of the series comes from: from its reference only if a step of its row uses it.
     fn origin(&self) -> u8
-        ensures { result ≡ origin self.now.edition (station_in B.Book.meaning self.now) self.now.reference }
+        ensures { result ≡ origin self.now.edition (station_in B.meaning self.now) self.now.reference }
     {
         if self.some_refers() {
             origin_of(self.number, self.reference)
@@ -158,7 +158,7 @@ impl<L: LadderSet, B: Book> Question<'_, L, B> {
 
     // By the row: the first place that finds a price, or the origin of the refusal.
     fn by_row(&self) -> Answer
-        ensures value { result ≡ by_row (L.LadderSet.lawful self.now.set.now) self.now.edition (station_in B.Book.meaning self.now) self.now.reference }
+        ensures value { result ≡ by_row (L.lawful self.now.set.now) self.now.edition (station_in B.meaning self.now) self.now.reference }
         ensures reach { AnswerInReach self.now.number result }
     {
         // A match: of an `ok_or_else` the proof has too little of what its closure gives.
@@ -170,7 +170,7 @@ impl<L: LadderSet, B: Book> Question<'_, L, B> {
 
     // The answer: a ruling with the first mark comes before the row.
     pub(crate) fn answer(&self) -> Answer
-        ensures value { result ≡ answered (L.LadderSet.lawful self.now.set.now) self.now.edition (station_in B.Book.meaning self.now) self.now.reference }
+        ensures value { result ≡ answered (L.lawful self.now.set.now) self.now.edition (station_in B.meaning self.now) self.now.reference }
         ensures reach { AnswerInReach self.now.number result }
     {
         match self.series.ruling {

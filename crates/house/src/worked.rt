@@ -15,7 +15,7 @@ pub struct WorkedPrice {
     pub tick: u32,
     /// The step that looks.
     pub step: Step,
-    /// The reference's price.
+    /// The reference's price, in points; so are all the others.
     pub reference: Option<i64>,
     /// The theory value.
     pub theory: Option<i64>,
@@ -54,7 +54,7 @@ fn by_theory(tick: u32, step: Step, theory: i64, price: i64) -> WorkedPrice
     }
 }
 
-/// Beside the prices stands the origin of the refusal of family 8 on family 2 on family 1, numbered from 0 in the order of
+/// The worked prices. Beside the prices stands the origin of the refusal of family 8 on family 2 on family 1, numbered from 0 in the order of
 /// listing, at the close and all without evidence: the family 1 series.
 pub fn worked_prices() -> ([WorkedPrice; 7], u8)
     ensures prices { AllByRecursion Holds result.0 }

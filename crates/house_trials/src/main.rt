@@ -15,17 +15,17 @@ use tape::tapes::{BLANK, Tape};
 
 // The places of a book where the title tells no number, and the most that it can tell. Only a case that is to fill its book
 // needs a number.
-const PLACES: usize = 40;
+const BOOK_PLACES: usize = 40;
 
-/// The places that a title tells, as `2 places: ..` or `1 place: ..`.
+// The places that a title tells, as `2 places: ..` or `1 place: ..`.
 fn places_of(title: &str) -> usize {
     match title.split_once(" place") {
-        Some((number, _)) => number.parse().unwrap_or(PLACES),
-        None => PLACES,
+        Some((number, _)) => number.parse().unwrap_or(BOOK_PLACES),
+        None => BOOK_PLACES,
     }
 }
 
-/// What is written of an input by way of a book.
+// What is written of an input by way of a book.
 fn written<B: Reusable>(rt: &HostRuntime, book: &mut B, input: &[u8]) -> anyhow::Result<Vec<u8>> {
     let mut output = Vec::new(rt.alloc());
     let mut rest = input;
@@ -33,7 +33,7 @@ fn written<B: Reusable>(rt: &HostRuntime, book: &mut B, input: &[u8]) -> anyhow:
     Ok(output)
 }
 
-/// What the second settlement answers to the lines of an input.
+// What the second settlement answers to the lines of an input.
 fn written_by_second(rt: &HostRuntime, places: usize, lines: &str) -> anyhow::Result<Vec<u8>> {
     let mut second = Second::new(rt.alloc(), places);
     let mut output = Vec::new(rt.alloc());
@@ -45,12 +45,12 @@ fn written_by_second(rt: &HostRuntime, places: usize, lines: &str) -> anyhow::Re
     Ok(output)
 }
 
-/// What is written of an input by way of a board and of a tape of so many places, which are at most `PLACES`, and by the second
-/// settlement; an error if two differ.
+// What is written of an input by way of a board and of a tape of so many places, which are at most `BOOK_PLACES`, and by the second
+// settlement; an error if two differ.
 fn written_by_all(rt: &HostRuntime, places: usize, lines: &str) -> anyhow::Result<Vec<u8>> {
-    let places = places.min(PLACES);
+    let places = places.min(BOOK_PLACES);
     let mut board = Board::new(LawfulDay::least(), places);
-    let mut slots = [BLANK; PLACES];
+    let mut slots = [BLANK; BOOK_PLACES];
     let mut tape = Tape::new(LawfulDay::least(), &mut slots[..places]);
     let by_board = written(rt, &mut board, lines.as_bytes())?;
     let by_tape = written(rt, &mut tape, lines.as_bytes())?;
@@ -64,7 +64,7 @@ fn written_by_all(rt: &HostRuntime, places: usize, lines: &str) -> anyhow::Resul
     Ok(by_board)
 }
 
-/// Writes the title of a case and the answers to its lines.
+// Writes the title of a case and the answers to its lines.
 fn answer_case(rt: &HostRuntime, case: &str) -> anyhow::Result<()> {
     let (title, lines) = case.split_once('\n').unwrap_or((case, ""));
     println!(rt; "# {title}")?;

@@ -21,7 +21,7 @@ fn both<S: LadderSet, R: LadderSet>(
     (round(first, ladder, x), round(second, ladder, y))
 }
 
-/// Two fractions, each rounded on the ladder of one number in a set of its own, whatever the makes of the two. With the same
+/// Two fractions of points, each rounded on the ladder of one number in a set of its own, whatever the makes of the two. With the same
 /// lawful prices, no answer falls when the fraction rises, and the same fraction has the same answer.
 pub fn round_two<S: LadderSet, R: LadderSet>(
     first: &S,

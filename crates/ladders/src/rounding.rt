@@ -15,14 +15,14 @@ use crate::sets::LadderSet;
 pub struct Rounded {
     /// The greatest lawful price not over the fraction, in points.
     pub below: i64,
-    /// The closest lawful price, of two equally close the larger.
+    /// The closest lawful price, of two equally close the larger, in points.
     pub nearest: i64,
-    /// The least lawful price not under the fraction.
+    /// The least lawful price not under the fraction, in points.
     pub above: i64,
 }
 
-/// Whether a price lies within the limit and on its ladder.
-pub fn is_lawful<S: LadderSet>(set: &S, ladder: u8, price: i64) -> bool
+/// Whether a price in points lies within the limit and on its ladder.
+pub fn is_lawful_price<S: LadderSet>(set: &S, ladder: u8, price: i64) -> bool
     ensures { result ≡ (within price && S.lawful set.now ladder price) }
 {
     set.below(ladder, price) == Some(price)
@@ -72,7 +72,7 @@ fn closer(fraction: (i64, u32), low: i64, high: i64) -> i64
     if over <= under { high } else { low }
 }
 
-/// The fraction (numerator, denominator) rounded to the lawful prices of a ladder: nothing for a denominator of zero or a
+/// The fraction (numerator, denominator) of points rounded to the lawful prices of a ladder: nothing for a denominator of zero or a
 /// fraction beyond the price limit.
 pub fn round<S: LadderSet>(set: &S, ladder: u8, fraction: (i64, u32)) -> Option<Rounded>
     ensures rule { AnswersWhere (inside fraction.0 fraction.1) (Rounds (S.lawful set.now ladder) fraction.0 fraction.1) result }
@@ -92,7 +92,8 @@ pub fn round<S: LadderSet>(set: &S, ladder: u8, fraction: (i64, u32)) -> Option<
     })
 }
 
-/// The lawful price closest to a fraction; of two equally close, the larger.
+/// The lawful price closest to a fraction of points; of two equally close, the larger. Nothing for a denominator of zero or a
+/// fraction beyond the price limit.
 pub fn nearest<S: LadderSet>(set: &S, ladder: u8, fraction: (i64, u32)) -> Option<i64>
     ensures rule { AnswersWhere (inside fraction.0 fraction.1) (Nearest (S.lawful set.now ladder) fraction.0 fraction.1) result }
     ensures value { result ≡ nearest_price (S.lawful set.now ladder) fraction.0 fraction.1 }

@@ -8,11 +8,11 @@ pub trait Ladder: Copy {
     // The ladder's meaning: its lawful prices.
     ghost holds: { Self → ℤ → Bool };
 
-    /// The least lawful price not under v, for v within the price limit.
+    /// The least lawful price not under v, in points, for v within the price limit; nothing for any other.
     fn above(&self, v: i64) -> Option<i64>
         ensures { AnswersWhere (within v) (Above (holds self.now) v) result };
 
-    /// The greatest lawful price not over v, for v within the price limit.
+    /// The greatest lawful price not over v, in points, for v within the price limit; nothing for any other.
     fn below(&self, v: i64) -> Option<i64>
         ensures { AnswersWhere (within v) (Below (holds self.now) v) result };
 

@@ -24,11 +24,11 @@ pub trait LadderSet {
     fn count(&self) -> u8
         ensures { result ≡ size self.now };
 
-    /// The least lawful price not under v, for v within the price limit. It may pass the limit.
+    /// The least lawful price not under v, in points, for v within the price limit; nothing for any other. It may pass the limit.
     fn above(&self, ladder: u8, v: i64) -> Option<i64>
         ensures { AnswersWhere (within v) (Above (lawful self.now ladder) v) result };
 
-    /// The greatest lawful price not over v, for v within the price limit. It may pass the limit.
+    /// The greatest lawful price not over v, in points, for v within the price limit; nothing for any other. It may pass the limit.
     fn below(&self, ladder: u8, v: i64) -> Option<i64>
         ensures { AnswersWhere (within v) (Below (lawful self.now ladder) v) result };
 

@@ -33,7 +33,7 @@ impl Tick {
         }
     }
 
-    /// Whether v is a multiple of the tick.
+    /// Whether v, in points, is a multiple of the tick.
     pub fn divides(self, v: i64) -> bool
         ensures { result ≡ multiple (points_of self) v }
     {

@@ -18,9 +18,9 @@ pub struct Worked {
     pub tick: u32,
     /// How it is rounded.
     pub way: Way,
-    /// Numerator and denominator.
+    /// Numerator, in points, and denominator.
     pub fraction: (i64, u32),
-    /// The price that it gives.
+    /// The price that it gives, in points.
     pub price: i64,
 }
 

@@ -3,7 +3,7 @@ use Rattle.std.proofs.Common.{◌≡◌, ℕ, ◌+◌, ◌≤◌, List, [], ◌�
 use Rattle.std.proofs.lemmas.Bool.{cases_lt}
 use Rattle.lines.specs.Fields.{fields, trailed}
 use Rattle.lines.specs.Places.{Breaks, Missed, next_start}
-use Rattle.lines.specs.Spelled.{BriefCall, Place, spelled}
+use Rattle.lines.specs.Spelled.{BriefCall, LinePlace, spelled}
 use Rattle.lines.proofs.Cuts.{shape}
 
 next_start_append : (a b : List (List ℕ)) (q : ℕ) → next_start (a ++ b) q ≡ next_start b (next_start a q)
@@ -40,7 +40,7 @@ missed_within spelt lawful fs q p m =
       breaks_within spelt lawful m.good m.rest (next_start m.good q) p m.breaks,
     )
 
-pub place_within : (line : List ℕ) (p : ℕ) → Place line p → p ≤ length line
+pub place_within : (line : List ℕ) (p : ℕ) → LinePlace line p → p ≤ length line
 place_within line p a =
     ⊎_elim (λ h. omega (arith, a.long h))
     (λ h. omega (arith, missed_within spelled BriefCall (fields line) 0 p (a.short h), fields_end line))

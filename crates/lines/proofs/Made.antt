@@ -6,13 +6,13 @@ use Rattle.book.specs.declared.entries.Kind.{Kind}
 use Rattle.book.specs.declared.entries.Kind.TheVariants as kinds
 use Rattle.house.specs.declared.phases.Bell.{Bell}
 use Rattle.rows.specs.declared.places.Edition.{Edition}
-use Rattle.calls.specs.declared.call.Call.TheVariants as calls
+use Rattle.calls.specs.declared.call.Call.TheVariants as house_calls
 use Rattle.lines.specs.declared.line_calls.LineCall.{LineCall}
-use Rattle.lines.specs.declared.line_calls.LineCall.TheVariants as lines
+use Rattle.lines.specs.declared.line_calls.LineCall.TheVariants as line_calls
 use Rattle.lines.specs.declared.names.Command.{Command}
 use Rattle.lines.specs.declared.names.Command.TheVariants as commands
 use Rattle.lines.specs.Places.{Missed}
-use Rattle.lines.specs.Spelled.{BriefCall, BriefKind, Named, bell_word, command, edition_word, kind_command, values}
+use Rattle.lines.specs.Spelled.{BriefCall, BriefKind, Named, bell_word, command, edition_word, kind_command, value_fields}
 use Rattle.lines.specs.Values.{Brief, BriefIf, mark, signed_if}
 use Rattle.lines.proofs.Missing.{missed_into}
 
@@ -83,20 +83,20 @@ abbrev pub parts_lawful : (k : Command) → Parts k → Type 0
 parts_lawful k v = tuple_lawful (sorts k) v
 
 abbrev pub call_of : (k : Command) → Parts k → LineCall
-call_of commands.Day v = lines.Day (record { night = v.0; opening = v.1.0; afternoon = v.1.1.0; close = v.1.1.1.0; cut = v.1.1.1.1.0 }) (v.1.1.1.1.1.0 ∷ v.1.1.1.1.1.1.0 ∷ v.1.1.1.1.1.1.1.0 ∷ v.1.1.1.1.1.1.1.1.0 ∷ [])
-call_of commands.List v = lines.Call (calls.List (record { family = v.0; ladder = v.1.0; reference = v.1.1.0; previous_settlement = v.1.1.1.0; previous_spread = v.1.1.1.1.0; marks = record { last_day = v.1.1.1.1.1.0; quarter_end = v.1.1.1.1.1.1.0 } }))
-call_of commands.Bell v = lines.Call (calls.Ring v.0)
-call_of commands.Trade v = lines.Call (calls.Enter (record { series = v.0; stamp = v.1.0; kind = kinds.Trade v.1.1.0 v.1.1.1.0 }))
-call_of commands.Auction v = lines.Call (calls.Enter (record { series = v.0; stamp = v.1.0; kind = kinds.Auction v.1.1.0 v.1.1.1.0 }))
-call_of commands.Leg v = lines.Call (calls.Enter (record { series = v.0; stamp = v.1.0; kind = kinds.Leg v.1.1.0 v.1.1.1.0 }))
-call_of commands.Spread v = lines.Call (calls.Enter (record { series = v.0; stamp = v.1.0; kind = kinds.Spread v.1.1.0 }))
-call_of commands.Quote v = lines.Call (calls.Enter (record { series = v.0; stamp = v.1.0; kind = kinds.Quote v.1.1.0 v.1.1.1.0 }))
-call_of commands.Theory v = lines.Call (calls.SetTheory v.0 v.1.0)
-call_of commands.Ruling v = lines.Call (calls.SetRuling v.0 v.1.0 v.1.1.0)
-call_of commands.Settle v = lines.Call (calls.Settle v.0 v.1.0)
+call_of commands.Day v = line_calls.Day (record { night = v.0; opening = v.1.0; afternoon = v.1.1.0; close = v.1.1.1.0; cut = v.1.1.1.1.0 }) (v.1.1.1.1.1.0 ∷ v.1.1.1.1.1.1.0 ∷ v.1.1.1.1.1.1.1.0 ∷ v.1.1.1.1.1.1.1.1.0 ∷ [])
+call_of commands.List v = line_calls.Call (house_calls.List (record { family = v.0; ladder = v.1.0; reference = v.1.1.0; previous_settlement = v.1.1.1.0; previous_spread = v.1.1.1.1.0; marks = record { last_day = v.1.1.1.1.1.0; quarter_end = v.1.1.1.1.1.1.0 } }))
+call_of commands.Bell v = line_calls.Call (house_calls.Ring v.0)
+call_of commands.Trade v = line_calls.Call (house_calls.Enter (record { series = v.0; stamp = v.1.0; kind = kinds.Trade v.1.1.0 v.1.1.1.0 }))
+call_of commands.Auction v = line_calls.Call (house_calls.Enter (record { series = v.0; stamp = v.1.0; kind = kinds.Auction v.1.1.0 v.1.1.1.0 }))
+call_of commands.Leg v = line_calls.Call (house_calls.Enter (record { series = v.0; stamp = v.1.0; kind = kinds.Leg v.1.1.0 v.1.1.1.0 }))
+call_of commands.Spread v = line_calls.Call (house_calls.Enter (record { series = v.0; stamp = v.1.0; kind = kinds.Spread v.1.1.0 }))
+call_of commands.Quote v = line_calls.Call (house_calls.Enter (record { series = v.0; stamp = v.1.0; kind = kinds.Quote v.1.1.0 v.1.1.1.0 }))
+call_of commands.Theory v = line_calls.Call (house_calls.SetTheory v.0 v.1.0)
+call_of commands.Ruling v = line_calls.Call (house_calls.SetRuling v.0 v.1.0 v.1.1.0)
+call_of commands.Settle v = line_calls.Call (house_calls.Settle v.0 v.1.0)
 
 -- the values make a call of the command
-pub named_to : (k : Command) (v : Parts k) → parts_lawful k v → (c : LineCall) × Named k c × (values c ≡ parts_spelt k v)
+pub named_to : (k : Command) (v : Parts k) → parts_lawful k v → (c : LineCall) × Named k c × (value_fields c ≡ parts_spelt k v)
 named_to commands.Day v h = (call_of commands.Day v, record { brief = ((h.0, h.1.0, h.1.1.0, h.1.1.1.0, h.1.1.1.1.0), refl, (h.1.1.1.1.1.0, (h.1.1.1.1.1.1.0, (h.1.1.1.1.1.1.1.0, (h.1.1.1.1.1.1.1.1.0, tt))))); named = refl }, refl)
 named_to commands.List v h = (call_of commands.List v, record { brief = (h.0, h.1.0, h.1.1.0, h.1.1.1.0, h.1.1.1.1.0); named = refl }, refl)
 named_to commands.Bell v h = (call_of commands.Bell v, record { brief = tt; named = refl }, refl)
@@ -111,9 +111,9 @@ named_to commands.Settle v h = (call_of commands.Settle v, record { brief = h.0;
 
 -- a call is made of such values
 abbrev pub Made : Command → LineCall → Type 0
-Made k c = (v : Parts k) × parts_lawful k v × (parts_spelt k v ≡ values c) × (call_of k v ≡ c)
+Made k c = (v : Parts k) × parts_lawful k v × (parts_spelt k v ≡ value_fields c) × (call_of k v ≡ c)
 
-made_day : (d : Day) (ts : List ℤ) → BriefCall (lines.Day d ts) → Made commands.Day (lines.Day d ts)
+made_day : (d : Day) (ts : List ℤ) → BriefCall (line_calls.Day d ts) → Made commands.Day (line_calls.Day d ts)
 made_day d [] b = absurd (omega arith)
 made_day d (t ∷ []) b = absurd (omega arith)
 made_day d (t ∷ u ∷ []) b = absurd (omega arith)
@@ -126,7 +126,7 @@ made_day d (t ∷ u ∷ v ∷ w ∷ []) b = (
 )
 made_day d (t ∷ u ∷ v ∷ w ∷ x ∷ ts) b = absurd (omega arith)
 
-made_entry : (n stamp : ℤ) (k : Kind) → Brief n → Brief stamp → BriefKind k → Made (kind_command k) (lines.Call (calls.Enter (record { series = n; stamp = stamp; kind = k })))
+made_entry : (n stamp : ℤ) (k : Kind) → Brief n → Brief stamp → BriefKind k → Made (kind_command k) (line_calls.Call (house_calls.Enter (record { series = n; stamp = stamp; kind = k })))
 made_entry n stamp (kinds.Trade x y) b d e = ((n, (stamp, (x, (y, tt)))), (b, (d, (e.0, (e.1, tt)))), refl, refl)
 made_entry n stamp (kinds.Auction x y) b d e = ((n, (stamp, (x, (y, tt)))), (b, (d, (e.0, (e.1, tt)))), refl, refl)
 made_entry n stamp (kinds.Leg x y) b d e = ((n, (stamp, (x, (y, tt)))), (b, (d, (e.0, (e.1, tt)))), refl, refl)
@@ -134,24 +134,24 @@ made_entry n stamp (kinds.Quote x y) b d e = ((n, (stamp, (x, (y, tt)))), (b, (d
 made_entry n stamp (kinds.Spread x) b d e = ((n, (stamp, (x, tt))), (b, (d, (e, tt))), refl, refl)
 
 pub made : (c : LineCall) → BriefCall c → Made (command c) c
-made (lines.Day d ts) b = made_day d ts b
-made (lines.Call (calls.List t)) b = (
+made (line_calls.Day d ts) b = made_day d ts b
+made (line_calls.Call (house_calls.List t)) b = (
   (t.family, (t.ladder, (t.reference, (t.previous_settlement, (t.previous_spread, (t.marks.last_day, (t.marks.quarter_end, tt))))))),
   (b.0, (b.1, (b.2, (b.3, (b.4, (tt, (tt, tt))))))),
   refl,
   refl,
 )
-made (lines.Call (calls.Ring r)) b = ((r, tt), (tt, tt), refl, refl)
-made (lines.Call (calls.Enter e)) b = made_entry e.series e.stamp e.kind b.0 b.1 b.2
-made (lines.Call (calls.SetTheory n v)) b = ((n, (v, tt)), (b.0, (b.1, tt)), refl, refl)
-made (lines.Call (calls.SetRuling n v first)) b = ((n, (v, (first, tt))), (b.0, (b.1, (tt, tt))), refl, refl)
-made (lines.Call (calls.Settle n e)) b = ((n, (e, tt)), (b, (tt, tt)), refl, refl)
+made (line_calls.Call (house_calls.Ring r)) b = ((r, tt), (tt, tt), refl, refl)
+made (line_calls.Call (house_calls.Enter e)) b = made_entry e.series e.stamp e.kind b.0 b.1 b.2
+made (line_calls.Call (house_calls.SetTheory n v)) b = ((n, (v, tt)), (b.0, (b.1, tt)), refl, refl)
+made (line_calls.Call (house_calls.SetRuling n v first)) b = ((n, (v, (first, tt))), (b.0, (b.1, (tt, tt))), refl, refl)
+made (line_calls.Call (house_calls.Settle n e)) b = ((n, (e, tt)), (b, (tt, tt)), refl, refl)
 
 pub made_named : (k : Command) (c : LineCall) → Named k c → Made k c
 made_named k c n = let P : Command → Type 0 = λ j. Made j c in subst P n.named (made c n.brief)
 
 -- what is missed of the values is missed of the calls
-pub missed_call : (k : Command) (fs : List (List ℕ)) (q p : ℕ) → Missed (parts_spelt k) (parts_lawful k) fs q p → Missed values (Named k) fs q p
+pub missed_call : (k : Command) (fs : List (List ℕ)) (q p : ℕ) → Missed (parts_spelt k) (parts_lawful k) fs q p → Missed value_fields (Named k) fs q p
 missed_call k =
-    missed_into (parts_spelt k) (parts_lawful k) values (Named k) (named_to k)
+    missed_into (parts_spelt k) (parts_lawful k) value_fields (Named k) (named_to k)
     (λ c n. let m = made_named k c n in (m.0, m.1, m.2))

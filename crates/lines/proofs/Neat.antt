@@ -13,8 +13,8 @@ use Rattle.lines.specs.declared.line_calls.LineCall.{LineCall}
 use Rattle.lines.specs.declared.names.Command.{Command}
 use Rattle.lines.specs.declared.names.Command.TheVariants as commands
 use Rattle.lines.specs.Fields.{fields, trailed}
-use Rattle.lines.specs.Names.{text}
-use Rattle.lines.specs.Spelled.{BriefCall, bell_word, command, edition_word, spelled, values, written}
+use Rattle.lines.specs.Names.{command_name}
+use Rattle.lines.specs.Spelled.{BriefCall, bell_word, command, edition_word, spelled, value_fields, written}
 use Rattle.lines.specs.Values.{Brief, BriefIf, mark, signed_if}
 use Rattle.lines.proofs.Apart.{arity, values_count}
 use Rattle.lines.proofs.Cuts.{AllSpaceless, Spaceless, fields_spaced}
@@ -40,18 +40,18 @@ clean_word (b ∷ bs) t = ((λ e. grind (arith, eq-eqb b 32 e)), clean_word bs (
 word_neat : (f : List ℕ) → spaceless f ≡ true → length f ≤ 11 → Neat f
 word_neat f t l = record { clean = clean_word f t; short = l }
 
-text_neat : (k : Command) → Neat (text k)
-text_neat commands.Day = word_neat (text commands.Day) refl (omega arith)
-text_neat commands.List = word_neat (text commands.List) refl (omega arith)
-text_neat commands.Bell = word_neat (text commands.Bell) refl (omega arith)
-text_neat commands.Trade = word_neat (text commands.Trade) refl (omega arith)
-text_neat commands.Auction = word_neat (text commands.Auction) refl (omega arith)
-text_neat commands.Leg = word_neat (text commands.Leg) refl (omega arith)
-text_neat commands.Spread = word_neat (text commands.Spread) refl (omega arith)
-text_neat commands.Quote = word_neat (text commands.Quote) refl (omega arith)
-text_neat commands.Theory = word_neat (text commands.Theory) refl (omega arith)
-text_neat commands.Ruling = word_neat (text commands.Ruling) refl (omega arith)
-text_neat commands.Settle = word_neat (text commands.Settle) refl (omega arith)
+text_neat : (k : Command) → Neat (command_name k)
+text_neat commands.Day = word_neat (command_name commands.Day) refl (omega arith)
+text_neat commands.List = word_neat (command_name commands.List) refl (omega arith)
+text_neat commands.Bell = word_neat (command_name commands.Bell) refl (omega arith)
+text_neat commands.Trade = word_neat (command_name commands.Trade) refl (omega arith)
+text_neat commands.Auction = word_neat (command_name commands.Auction) refl (omega arith)
+text_neat commands.Leg = word_neat (command_name commands.Leg) refl (omega arith)
+text_neat commands.Spread = word_neat (command_name commands.Spread) refl (omega arith)
+text_neat commands.Quote = word_neat (command_name commands.Quote) refl (omega arith)
+text_neat commands.Theory = word_neat (command_name commands.Theory) refl (omega arith)
+text_neat commands.Ruling = word_neat (command_name commands.Ruling) refl (omega arith)
+text_neat commands.Settle = word_neat (command_name commands.Settle) refl (omega arith)
 
 bell_neat : (b : Bell) → Neat (bell_word b)
 bell_neat bells.Open = word_neat (bell_word bells.Open) refl (omega arith)
@@ -100,7 +100,7 @@ tuple_neat : (ss : List Sort) (v : Tuple ss) → tuple_lawful ss v → AllNeat (
 tuple_neat [] v h = tt
 tuple_neat (s ∷ ss) v h = (value_neat s v.0 h.0, tuple_neat ss v.1 h.1)
 
-values_neat : (c : LineCall) → BriefCall c → AllNeat (values c)
+values_neat : (c : LineCall) → BriefCall c → AllNeat (value_fields c)
 values_neat c b = let m = made c b in subst AllNeat m.2 (tuple_neat (sorts (command c)) m.0 m.1)
 
 all_clean : (fs : List (List ℕ)) → AllNeat fs → AllSpaceless fs
@@ -110,7 +110,7 @@ all_clean (f ∷ fs) h = (h.0.clean, all_clean fs h.1)
 -- a call's line is cut into what the call is spelled by
 pub fields_written : (c : LineCall) → BriefCall c → fields (written c) ≡ spelled c
 fields_written c b =
-    fields_spaced (text (command c)) (values c) (text_neat (command c)).clean (all_clean (values c) (values_neat c b))
+    fields_spaced (command_name (command c)) (value_fields c) (text_neat (command c)).clean (all_clean (value_fields c) (values_neat c b))
 
 trailed_short : (fs : List (List ℕ)) → AllNeat fs → length (trailed fs) ≤ 12 * length fs
 trailed_short [] h = omega arith
@@ -135,9 +135,9 @@ pub written_short : (c : LineCall) → BriefCall c → length (written c) ≤ 20
 written_short c b =
     omega (
       arith,
-      length-append (text (command c)) (trailed (values c)),
+      length-append (command_name (command c)) (trailed (value_fields c)),
       (text_neat (command c)).short,
-      trailed_short (values c) (values_neat c b),
+      trailed_short (value_fields c) (values_neat c b),
       values_count c b,
       few (command c),
     )

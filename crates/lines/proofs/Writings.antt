@@ -11,8 +11,8 @@ use Rattle.rows.specs.declared.places.Edition.TheVariants as editions
 use Rattle.lines.specs.declared.line_calls.LineCall.{LineCall}
 use Rattle.lines.specs.declared.faults.NotRead.{NotRead}
 use Rattle.lines.specs.Fields.{fields}
-use Rattle.lines.specs.Names.{text}
-use Rattle.lines.specs.Spelled.{Alone, BriefCall, Parsed, Place, Within, bell_word, command, edition_word, spelled, values, written}
+use Rattle.lines.specs.Names.{command_name}
+use Rattle.lines.specs.Spelled.{Alone, BriefCall, Parsed, LinePlace, Within, bell_word, command, edition_word, spelled, value_fields, written}
 use Rattle.lines.specs.Values.{Brief, BriefIf, mark, signed_if}
 use Rattle.lines.proofs.Apart.{front_free, same_command}
 use Rattle.lines.proofs.Ends.{place_within, fields_end}
@@ -76,16 +76,16 @@ tuple_apart (s ∷ ss) v w h k e =
 
 pub written_apart : (c d : LineCall) → BriefCall c → BriefCall d → written c ≡ written d → c ≡ d
 written_apart c d b h e =
-    let s : text (command c) ∷ values c ≡ text (command d) ∷ values d = sym (fields_written c b) ∙ ap fields e ∙ fields_written d h in
-    let t : values c ≡ values d = cc in
-    let m = made_named (command d) c (record { brief = b; named = same_command c (command d) (values d) s }) in
+    let s : command_name (command c) ∷ value_fields c ≡ command_name (command d) ∷ value_fields d = sym (fields_written c b) ∙ ap fields e ∙ fields_written d h in
+    let t : value_fields c ≡ value_fields d = cc in
+    let m = made_named (command d) c (record { brief = b; named = same_command c (command d) (value_fields d) s }) in
     let n = made d h in
     let p : m.0 ≡ n.0 = tuple_apart (sorts (command d)) m.0 n.0 m.1 n.1 (m.2 ∙ t ∙ sym n.2) in
     sym m.3 ∙ ap (call_of (command d)) p ∙ n.3
 
 -- ---- places
 
-pub place_one : (line : List ℕ) (p p' : ℕ) → Place line p → Place line p' → p ≡ p'
+pub place_one : (line : List ℕ) (p p' : ℕ) → LinePlace line p → LinePlace line p' → p ≡ p'
 place_one line p p' a b =
     ⊎_elim (λ h. a.long h ∙ sym (b.long h))
     (λ h. one_place spelled BriefCall front_free (fields line) 0 p p' (a.short h) (b.short h))

@@ -26,9 +26,9 @@ NextField old (Err e) new =
     (left old ≡ []) × (e.place ≡ length (line_of old)) × (e.place + 1 ≡ left_start old) × (left_start new ≡ left_start old)
 
 -- no field is left; or one is too many, and the place is one before it, where the field that was handed out last ends
-abbrev pub Ended : Reader → Result Unit NotRead → Type 0
-Ended reader (Ok u) = left reader ≡ []
-Ended reader (Err e) = (left reader ≢ []) × (e.place + 1 ≡ left_start reader)
+abbrev pub NoneLeft : Reader → Result Unit NotRead → Type 0
+NoneLeft reader (Ok u) = left reader ≡ []
+NoneLeft reader (Err e) = (left reader ≢ []) × (e.place + 1 ≡ left_start reader)
 
 -- what reading all that is left gives
 abbrev pub ReadFrom : {C : Type 0} → (C → List (List ℕ)) → (C → Type 0) → Reader → Result C NotRead → Type 0

@@ -1,5 +1,5 @@
 // The commands and their names.
-ghost use Rattle.lines.specs.Names.{text};
+ghost use Rattle.lines.specs.Names.{command_name};
 ghost use Rattle.lines.specs.declared.names.Command.TheVariants as commands;
 ghost use Rattle.std.proofs.Common.{rules};
 
@@ -12,7 +12,7 @@ pub enum Command {
     Day,
     /// The terms of a series.
     List,
-    /// The bell that opens or closes the evening.
+    /// The bell that begins or ends trading.
     Bell,
     /// An entry: a trade.
     Trade,
@@ -33,7 +33,7 @@ pub enum Command {
 }
 
 impl FromField for Command {
-    ghost spelt = { text };
+    ghost spelt = { command_name };
 
     ghost lawful = { λ _. Unit {0} };
 

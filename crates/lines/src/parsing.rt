@@ -3,17 +3,17 @@
 
 ghost use Rattle.std.specs.Prelude.{◌≡◌};
 ghost use Rattle.lines.specs.Reading.{ReadFrom};
-ghost use Rattle.lines.specs.Spelled.{Alone, FieldsEnd, Longest, Named, OnePlace, OneReading, Parsed, Within, WritingsApart, values};
-ghost use Rattle.lines.specs.declared.line_calls.LineCall.TheVariants as lines;
+ghost use Rattle.lines.specs.Spelled.{Alone, FieldsEnd, Longest, Named, OnePlace, OneReading, Parsed, Within, WritingsApart, value_fields};
+ghost use Rattle.lines.specs.declared.line_calls.LineCall.TheVariants as line_calls;
 ghost use Rattle.lines.specs.declared.names.Command.TheVariants as commands;
-ghost use Rattle.calls.specs.declared.call.Call.TheVariants as calls;
+ghost use Rattle.calls.specs.declared.call.Call.TheVariants as house_calls;
 
 use crate::faults::NotRead;
 use crate::line_calls::LineCall;
 use crate::names::Command;
 use crate::readers::{LONGEST, Reader};
 use crate::tuples::FromFields;
-use crate::values::FromField;
+use crate::value_fields::FromField;
 use book::days::Day;
 use book::entries::{Entry, Kind};
 use calls::call::Call;
@@ -34,7 +34,7 @@ type ListFields = (
 );
 
 fn read_day(reader: &mut Reader<'_>) -> Result<LineCall, NotRead>
-    ensures { ReadFrom values (Named commands.Day) reader.old result }
+    ensures { ReadFrom value_fields (Named commands.Day) reader.old result }
 {
     let (night, (opening, (afternoon, (close, (cut, ticks))))) = DayFields::from_fields(reader)?;
     let (first, (second, (third, (fourth, ())))) = ticks;
@@ -51,7 +51,7 @@ fn read_day(reader: &mut Reader<'_>) -> Result<LineCall, NotRead>
 }
 
 fn read_list(reader: &mut Reader<'_>) -> Result<LineCall, NotRead>
-    ensures { ReadFrom values (Named commands.List) reader.old result }
+    ensures { ReadFrom value_fields (Named commands.List) reader.old result }
 {
     let (family, (ladder, (reference, (previous_settlement, (previous_spread, marks))))) =
         ListFields::from_fields(reader)?;
@@ -70,14 +70,14 @@ fn read_list(reader: &mut Reader<'_>) -> Result<LineCall, NotRead>
 }
 
 fn read_bell(reader: &mut Reader<'_>) -> Result<LineCall, NotRead>
-    ensures { ReadFrom values (Named commands.Bell) reader.old result }
+    ensures { ReadFrom value_fields (Named commands.Bell) reader.old result }
 {
     let (bell, ()) = <(Bell, ())>::from_fields(reader)?;
     Ok(LineCall::Call(Call::Ring(bell)))
 }
 
 fn entry(series: i64, stamp: i64, kind: Kind) -> LineCall
-    ensures { result ≡ lines.Call (calls.Enter (record { series = series; stamp = stamp; kind = kind })) }
+    ensures { result ≡ line_calls.Call (house_calls.Enter (record { series = series; stamp = stamp; kind = kind })) }
 {
     LineCall::Call(Call::Enter(Entry {
         series,
@@ -89,35 +89,35 @@ fn entry(series: i64, stamp: i64, kind: Kind) -> LineCall
 // Trades, auctions and legs one by one: a function that took the kind as a closure could only promise by way of the closure,
 // and not that the line is a trade's.
 fn read_trade(reader: &mut Reader<'_>) -> Result<LineCall, NotRead>
-    ensures { ReadFrom values (Named commands.Trade) reader.old result }
+    ensures { ReadFrom value_fields (Named commands.Trade) reader.old result }
 {
     let (series, (stamp, (price, (lots, ())))) = Four::from_fields(reader)?;
     Ok(entry(series, stamp, Kind::Trade { price, lots }))
 }
 
 fn read_auction(reader: &mut Reader<'_>) -> Result<LineCall, NotRead>
-    ensures { ReadFrom values (Named commands.Auction) reader.old result }
+    ensures { ReadFrom value_fields (Named commands.Auction) reader.old result }
 {
     let (series, (stamp, (price, (lots, ())))) = Four::from_fields(reader)?;
     Ok(entry(series, stamp, Kind::Auction { price, lots }))
 }
 
 fn read_leg(reader: &mut Reader<'_>) -> Result<LineCall, NotRead>
-    ensures { ReadFrom values (Named commands.Leg) reader.old result }
+    ensures { ReadFrom value_fields (Named commands.Leg) reader.old result }
 {
     let (series, (stamp, (price, (lots, ())))) = Four::from_fields(reader)?;
     Ok(entry(series, stamp, Kind::Leg { price, lots }))
 }
 
 fn read_spread(reader: &mut Reader<'_>) -> Result<LineCall, NotRead>
-    ensures { ReadFrom values (Named commands.Spread) reader.old result }
+    ensures { ReadFrom value_fields (Named commands.Spread) reader.old result }
 {
     let (series, (stamp, (difference, ()))) = <(i64, (i64, (i64, ())))>::from_fields(reader)?;
     Ok(entry(series, stamp, Kind::Spread { difference }))
 }
 
 fn read_quote(reader: &mut Reader<'_>) -> Result<LineCall, NotRead>
-    ensures { ReadFrom values (Named commands.Quote) reader.old result }
+    ensures { ReadFrom value_fields (Named commands.Quote) reader.old result }
 {
     let (series, (stamp, (bid, (ask, ())))) = <(
         i64,
@@ -127,14 +127,14 @@ fn read_quote(reader: &mut Reader<'_>) -> Result<LineCall, NotRead>
 }
 
 fn read_theory(reader: &mut Reader<'_>) -> Result<LineCall, NotRead>
-    ensures { ReadFrom values (Named commands.Theory) reader.old result }
+    ensures { ReadFrom value_fields (Named commands.Theory) reader.old result }
 {
     let (series, (value, ())) = <(i64, (Option<i64>, ()))>::from_fields(reader)?;
     Ok(LineCall::Call(Call::SetTheory { series, value }))
 }
 
 fn read_ruling(reader: &mut Reader<'_>) -> Result<LineCall, NotRead>
-    ensures { ReadFrom values (Named commands.Ruling) reader.old result }
+    ensures { ReadFrom value_fields (Named commands.Ruling) reader.old result }
 {
     let (series, (value, (first, ()))) = <(i64, (Option<i64>, (bool, ())))>::from_fields(reader)?;
     Ok(LineCall::Call(Call::SetRuling {
@@ -145,7 +145,7 @@ fn read_ruling(reader: &mut Reader<'_>) -> Result<LineCall, NotRead>
 }
 
 fn read_settle(reader: &mut Reader<'_>) -> Result<LineCall, NotRead>
-    ensures { ReadFrom values (Named commands.Settle) reader.old result }
+    ensures { ReadFrom value_fields (Named commands.Settle) reader.old result }
 {
     let (series, (edition, ())) = <(i64, (Edition, ()))>::from_fields(reader)?;
     Ok(LineCall::Call(Call::Settle { series, edition }))
@@ -153,7 +153,7 @@ fn read_settle(reader: &mut Reader<'_>) -> Result<LineCall, NotRead>
 
 // The call of the command whose values are the fields left.
 fn read(command: Command, reader: &mut Reader<'_>) -> Result<LineCall, NotRead>
-    ensures { ReadFrom values (Named command) reader.old result }
+    ensures { ReadFrom value_fields (Named command) reader.old result }
 {
     // A match, and no table of functions: the commands are closed, and each arm is a promise of its own.
     match command {

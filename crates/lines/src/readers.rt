@@ -44,7 +44,7 @@ pub struct Reader<'a> {
 impl<'a> Reader<'a> {
     ghost use Rattle.std.specs.Prelude.{◌≡◌, ◌+◌, ◌≤◌, ◌∷◌, length};
     ghost use Rattle.lines.specs.Fields.{fields};
-    ghost use Rattle.lines.specs.Reading.{Ended, NextField, left, line_of, left_start};
+    ghost use Rattle.lines.specs.Reading.{NoneLeft, NextField, left, line_of, left_start};
 
     /// The line's first field, and the reader of those after it.
     pub fn begin(line: &'a [u8]) -> (Field<'a>, Reader<'a>)
@@ -83,8 +83,8 @@ impl<'a> Reader<'a> {
 
     /// Nothing, where no field is left. Where one is too many, the place of the refusal is the byte after the last field that
     /// was handed out.
-    pub fn end(&self) -> Result<(), NotRead>
-        ensures { Ended self.now result }
+    pub fn expect_end(&self) -> Result<(), NotRead>
+        ensures { NoneLeft self.now result }
     {
         if self.at < self.line.len() {
             return Err(NotRead {

@@ -35,7 +35,7 @@ impl FromFields for () {
     ghost sampled = { Prim.search rules };
 
     fn from_fields(reader: &mut Reader<'_>) -> Result<(), NotRead> {
-        reader.end()
+        reader.expect_end()
     }
 }
 

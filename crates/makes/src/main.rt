@@ -11,7 +11,7 @@ use stream::serving::serve;
 use tape::tapes::{BLANK, Tape};
 
 // So few that an input can fill them.
-const PLACES: usize = 8;
+const BOOK_PLACES: usize = 8;
 
 // What is written of an input by way of a book.
 fn written<B: Reusable>(rt: &HostRuntime, book: &mut B, input: &[u8]) -> anyhow::Result<Vec<u8>> {
@@ -24,8 +24,8 @@ fn written<B: Reusable>(rt: &HostRuntime, book: &mut B, input: &[u8]) -> anyhow:
 fn run(rt: &HostRuntime) -> anyhow::Result<()> {
     let mut input = Vec::new(rt.alloc());
     rt.reader().read_to_end(&mut input)?;
-    let mut board = Board::new(LawfulDay::least(), PLACES);
-    let mut slots = [BLANK; PLACES];
+    let mut board = Board::new(LawfulDay::least(), BOOK_PLACES);
+    let mut slots = [BLANK; BOOK_PLACES];
     let mut tape = Tape::new(LawfulDay::least(), &mut slots);
     let one = written(rt, &mut board, &input)?;
     let other = written(rt, &mut tape, &input)?;

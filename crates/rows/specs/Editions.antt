@@ -3,6 +3,6 @@ use Rattle.std.specs.Prelude.{ℕ, List, codes}
 use Rattle.rows.specs.declared.places.Edition.{Edition}
 use Rattle.rows.specs.declared.places.Edition.TheVariants.{Close, Morning}
 
-abbrev pub name : Edition → List ℕ
-name Close = codes "close"
-name Morning = codes "morning"
+abbrev pub edition_name : Edition → List ℕ
+edition_name Close = codes "close"
+edition_name Morning = codes "morning"

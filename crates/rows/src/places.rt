@@ -1,6 +1,6 @@
 // A place of a row: a step, and the window that it looks in, where it has one.
 ghost use Rattle.std.specs.Prelude.{Some};
-ghost use Rattle.rows.specs.Editions.{name};
+ghost use Rattle.rows.specs.Editions.{edition_name};
 
 use crate::steps::Step;
 use std::fmt;
@@ -37,7 +37,7 @@ pub enum Edition {
 }
 
 impl fmt::Display for Edition {
-    ghost output = { λ e. Some (name e) };
+    ghost output = { λ e. Some (edition_name e) };
 
     fn fmt<W: fmt::Write>(&self, f: &mut fmt::Formatter<W>) -> fmt::Result {
         f.write_str(match self {

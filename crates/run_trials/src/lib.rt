@@ -18,7 +18,7 @@ mod tests {
     use ladders::sets::{EvenSet, SteppedSet};
     use rows::places::{Edition, Marks};
     use rows::steps::Step;
-    use runs::comparing::{Answers, Run, compare, compare_makes};
+    use runs::comparing::{Outcomes, Run, compare, compare_makes};
     use std::test::Fail;
     use tape::tapes::{BLANK, Tape};
 
@@ -72,7 +72,7 @@ mod tests {
     }
 
     // Both runs on ticks of 10, and the question for the close of a series after each.
-    fn both(calls: &[Call], other_calls: &[Call], series: i64) -> Result<Answers, Fail> {
+    fn both(calls: &[Call], other_calls: &[Call], series: i64) -> Result<Outcomes, Fail> {
         let bands = [Band {
             start: None,
             tick: 10,

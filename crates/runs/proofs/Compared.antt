@@ -17,7 +17,7 @@ use Rattle.book.proofs.Growth.{bounded_empty, bounded_entered}
 use Rattle.book.proofs.Ranges.{allowed_kind}
 use Rattle.ladders.specs.Rounding.{Near}
 use Rattle.rows.specs.declared.places.Edition.{Edition}
-use Rattle.house.specs.Answers.{Answer, answer_at, path_answer, references, station_of}
+use Rattle.house.specs.Outcomes.{Answer, answer_at, path_answer, references, station_of}
 use Rattle.house.specs.Calls.{new_state}
 use Rattle.house.specs.Found.{Station}
 use Rattle.house.specs.Houses.{set_of, state}
@@ -32,9 +32,9 @@ use Rattle.calls.specs.Worlds.{World, new_world}
 use Rattle.calls.specs.declared.call.Call.{Call}
 use Rattle.runs.specs.Added.{Among}
 use Rattle.runs.specs.PathEntries.{entries_on, on_path}
-use Rattle.runs.specs.Laws.{Alike, Comparable, Law, Laws, MayAskAfter, NoLater, NotLower, Outcome, RunMeaning, answer_in, calls_taken_in, end, new_run, path_of, run_of}
+use Rattle.runs.specs.Laws.{Alike, Comparable, Law, Laws, MayAskAfter, NoLater, NotLower, Outcome, RunMeaning, answer_in, calls_taken_in, end_world, new_run, path_of, run_of}
 use Rattle.runs.specs.Raised.{EntryRaised, Relation, SeriesRaised}
-use Rattle.runs.specs.Readings.{entries, series_after}
+use Rattle.runs.specs.ByCalls.{entries, series_after}
 use Rattle.runs.specs.Told.{Told}
 use Rattle.runs.proofs.AddedFigures.{more_figures}
 use Rattle.runs.proofs.Along.{StationLawful}
@@ -47,11 +47,11 @@ use Rattle.runs.proofs.ToldRuns.{told_from_new}
 -- ---- stations by the calls taken
 
 -- the station of a series on a day
-abbrev told_station : Day → List Call → ℕ → Station
-told_station d xs n = record { number = n; series = series_after xs n; figures = λ w. values (figures_of d (entries xs) n w) }
+abbrev station_by_calls : Day → List Call → ℕ → Station
+station_by_calls d xs n = record { number = n; series = series_after xs n; figures = λ w. values (figures_of d (entries xs) n w) }
 
-abbrev told_answer : (ℕ → ℤ → Bool) → Edition → Day → List Call → ℕ → Answer
-told_answer P ed d xs n = path_answer P ed (told_station d xs n) (map (told_station d xs) (references (series_after xs) n))
+abbrev answer_by_calls : (ℕ → ℤ → Bool) → Edition → Day → List Call → ℕ → Answer
+answer_by_calls P ed d xs n = path_answer P ed (station_by_calls d xs n) (map (station_by_calls d xs) (references (series_after xs) n))
 
 -- figures of allowed entries are bounded
 bounded_all : (d : Day) (s : ℕ) (x : ℤ × ℤ) (n : ℕ) (f : Figures) (es : List Entry) → every (allowed d) es ≡ true
@@ -65,18 +65,18 @@ bounded_all d s x n f (e ∷ es) h b =
 
 module _ (d : Day) (k : ℕ) (xs : List Call) (w : World) (told : Told d k xs w) where
   -- what the house would answer
-  answer_told : (P : ℕ → ℤ → Bool) (ed : Edition) (n : ℕ) → answer_at P ed w.state w.book n ≡ told_answer P ed d xs n
-  answer_told P ed n = λ i.
+  answer_is_by_calls : (P : ℕ → ℤ → Bool) (ed : Edition) (n : ℕ) → answer_at P ed w.state w.book n ≡ answer_by_calls P ed d xs n
+  answer_is_by_calls P ed n = λ i.
       path_answer P ed (station_of n (told.roll.series n i) (told.book.records i))
       (map (λ r. station_of r (told.roll.series r i) (told.book.records i)) (references (λ r. told.roll.series r i) n))
 
-  station_lawful : (n : ℕ) → StationLawful (told_station d xs n)
+  station_lawful : (n : ℕ) → StationLawful (station_by_calls d xs n)
   station_lawful n = record {
     series = ap (lawful_series n) (sym (told.roll.series n)) ∙ told.roll.lawful n;
     figures = λ v. (0 + length (entries xs), bounded_all d n (edges d v) 0 empty (entries xs) told.book.lawful (bounded_empty 0));
   }
 
-  all_lawful : (ns : List ℕ) → AllByRecursion StationLawful (map (told_station d xs) ns)
+  all_lawful : (ns : List ℕ) → AllByRecursion StationLawful (map (station_by_calls d xs) ns)
   all_lawful [] = tt
   all_lawful (n ∷ ns) = (station_lawful n, all_lawful ns)
 
@@ -100,13 +100,13 @@ pairs A R f g path (n ∷ ns) each a on = (each n a.0 on.0, pairs A R f g path n
 -- ---- answers to a question in time
 
 -- what the house answers to it is told by the calls taken
-asked_answer : (d : Day) (k : ℕ) (r : RunMeaning) (n : ℤ) (ed : Edition) → Told d k (calls_taken_in r) (end r)
-    → MayAskAfter r n ed → answer_in r n ed ≡ or_no_price (told_answer r.lawful ed d (calls_taken_in r) (nat_abs n))
+asked_answer : (d : Day) (k : ℕ) (r : RunMeaning) (n : ℤ) (ed : Edition) → Told d k (calls_taken_in r) (end_world r)
+    → MayAskAfter r n ed → answer_in r n ed ≡ or_no_price (answer_by_calls r.lawful ed d (calls_taken_in r) (nat_abs n))
 asked_answer d k r n ed told may =
     let opened = ap (λ p. is_open p ed) told.phase ∙ may.opened in
     let listed = ap (λ c. is_listed c n) told.roll.count ∙ may.listed in
-    in_time r.lawful ed (end r).state (end r).book n (record { opened = opened; listed = listed })
-    ∙ ap or_no_price (answer_told d k (calls_taken_in r) (end r) told r.lawful ed (nat_abs n))
+    in_time r.lawful ed (end_world r).state (end_world r).book n (record { opened = opened; listed = listed })
+    ∙ ap or_no_price (answer_is_by_calls d k (calls_taken_in r) (end_world r) told r.lawful ed (nat_abs n))
 
 not_lower_asked : (x y : Answer) → NotLower x y → NotLower (or_no_price x) (or_no_price y)
 not_lower_asked (Ok s) (Ok t) h = h
@@ -127,7 +127,7 @@ RelatesStations OnSeries OnEntries OnStations =
     (d : Day) (path : List ℕ) (xs ys : List Call) (k : ℕ)
     → every (allowed d) (entries xs) ≡ true → every (allowed d) (entries ys) ≡ true
     → OnEntries (entries_on path (entries xs)) (entries_on path (entries ys)) → on_path path (pos k) ≡ true
-    → OnSeries (series_after xs k) (series_after ys k) → OnStations (told_station d xs k) (told_station d ys k)
+    → OnSeries (series_after xs k) (series_after ys k) → OnStations (station_by_calls d xs k) (station_by_calls d ys k)
 
 -- from related stations along two paths to related answers
 abbrev RelatesAnswers : (ℕ → ℤ → Bool) → Edition → Relation Station → Relation Answer → Type 0
@@ -152,21 +152,21 @@ module _ (a b : RunMeaning) (n : ℤ) (ed : Edition) where
       let k = nat_abs n in
       let xs = calls_taken_in a in
       let ys = calls_taken_in b in
-      let f = told_station d xs in
-      let g = told_station d ys in
+      let f = station_by_calls d xs in
+      let g = station_by_calls d ys in
       let path = path_of xs k in
-      let one = told_from_new d c.capacity a.ladders a.lawful a.calls a.start (end a) refl c.new in
-      let other = told_from_new d c.other_capacity b.ladders b.lawful b.calls b.start (end b) refl c.other_new in
+      let one = told_from_new d c.capacity a.ladders a.lawful a.calls a.start (end_world a) refl c.new in
+      let other = told_from_new d c.other_capacity b.ladders b.lawful b.calls b.start (end_world b) refl c.other_new in
       let paired = pairs (λ q. OnSeries (series_after xs q) (series_after ys q)) OnStations f g path path
       (λ q s on. stations d path xs ys q one.book.lawful other.book.lawful e.evidence on s)
       e.series (each_on_path path path (λ q h. h)) in
       let along = answers (f k) (g k) (map f (references (series_after xs) k)) (map g (references (series_after ys) k))
-      (all_lawful d c.capacity xs (end a) one path)
-      (all_lawful d c.other_capacity ys (end b) other (path_of ys k))
+      (all_lawful d c.capacity xs (end_world a) one path)
+      (all_lawful d c.other_capacity ys (end_world b) other (path_of ys k))
       (subst (λ (ns : List ℕ). AllZip OnStations (map f path) (map g ns)) e.numbers paired) in
       let prices : a.lawful ≡ b.lawful = λ i l v. c.alike.prices l v i in
       subst₂ OnOutcomes (sym (asked_answer d c.capacity a n ed one c.alike.first))
-      (ap (λ P. or_no_price (told_answer P ed d ys k)) prices
+      (ap (λ P. or_no_price (answer_by_calls P ed d ys k)) prices
       ∙ sym (asked_answer d c.other_capacity b n ed other c.alike.second))
       (outcomes _ _ along)
 

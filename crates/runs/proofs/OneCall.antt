@@ -7,7 +7,7 @@ use Rattle.std.proofs.lemmas.List.Sums.{fold_push}
 use Rattle.std.proofs.lemmas.Bool.{and_parts, cases_eq, cases_lt, cond-false, cond-true, eq-eqb, ltb-true, ne_eqb, true≢false}
 use Rattle.book.specs.Entries.{allowed, side_lawful}
 use Rattle.book.specs.Figures.{is_series}
-use Rattle.book.specs.Ledgers.{Ledger, answer, with_taken}
+use Rattle.book.specs.Ledgers.{Ledger, take_answer, with_taken}
 use Rattle.book.specs.Records.{every, recorded}
 use Rattle.book.specs.declared.days.Day.{Day}
 use Rattle.book.specs.declared.entries.Entry.{Entry}
@@ -30,12 +30,12 @@ use Rattle.house.specs.declared.terms.Listing.{Listing}
 use Rattle.house.specs.declared.terms.Terms.{Terms}
 use Rattle.house.proofs.Admitted.{Admitted, listed_have, listed_lawful}
 use Rattle.house.proofs.Slots.{lawful_ruled, lawful_theory}
-use Rattle.runs.specs.Readings.{entries, entries_in, last_ruling, last_theory, terms_listed, phase_after, phase_by, phase_left, ruling_left, series_after, terms_by, terms_in, theory_left}
-use Rattle.calls.specs.Worlds.{World, is_taken, new_world, next}
+use Rattle.runs.specs.ByCalls.{entries, entries_in, last_ruling, last_theory, terms_listed, phase_after, phase_by, phase_next, ruling_next, series_after, terms_by, terms_in, theory_next}
+use Rattle.calls.specs.Worlds.{World, is_taken, new_world, after_call}
 use Rattle.runs.specs.Told.{BookTold, RollTold, Told}
 use Rattle.calls.specs.declared.call.Call.{Call}
 use Rattle.calls.specs.declared.call.Call.TheVariants.{List as ListCall, Ring, Enter, SetTheory, SetRuling, Settle}
-use Rattle.calls.proofs.Refusals.{found, listed_ok, ok_with_ok}
+use Rattle.calls.proofs.Refusals.{ok_value, listed_ok, ok_with_ok}
 
 pub told_new : (d : Day) (k : ℕ) → Told d k [] (new_world d k)
 told_new d k = record {
@@ -60,16 +60,16 @@ entries_same xs c none = entries_push xs c ∙ ap (λ es. entries xs ++ es) none
 
 -- from its parts
 series_after_as : (xs : List Call) (c : Call) (n : ℕ) (t : Terms) (o : Option ℤ) (q : Option Ruling)
-    → get_or (terms_listed (xs ++ (c ∷ []))) n blank.terms ≡ t → theory_left n (last_theory n xs) c ≡ o
-    → ruling_left n (last_ruling n xs) c ≡ q → series_after (xs ++ (c ∷ [])) n ≡ record { terms = t; theory = o; ruling = q }
+    → get_or (terms_listed (xs ++ (c ∷ []))) n blank.terms ≡ t → theory_next n (last_theory n xs) c ≡ o
+    → ruling_next n (last_ruling n xs) c ≡ q → series_after (xs ++ (c ∷ [])) n ≡ record { terms = t; theory = o; ruling = q }
 series_after_as xs c n t o q terms theory ruling =
-    let supplied = fold_push (theory_left n) None xs c ∙ theory in
-    let ruled = fold_push (ruling_left n) None xs c ∙ ruling in
+    let supplied = fold_push (theory_next n) None xs c ∙ theory in
+    let ruled = fold_push (ruling_next n) None xs c ∙ ruling in
     λ i. record { terms = terms i; theory = supplied i; ruling = ruled i }
 
 -- after a call that lists nothing
 series_after_with : (xs : List Call) (c : Call) (n : ℕ) (o : Option ℤ) (q : Option Ruling) → terms_in c ≡ []
-    → theory_left n (last_theory n xs) c ≡ o → ruling_left n (last_ruling n xs) c ≡ q
+    → theory_next n (last_theory n xs) c ≡ o → ruling_next n (last_ruling n xs) c ≡ q
     → series_after (xs ++ (c ∷ [])) n ≡ record { terms = (series_after xs n).terms; theory = o; ruling = q }
 series_after_with xs c n o q none theory ruling =
     series_after_as xs c n (series_after xs n).terms o q
@@ -77,8 +77,8 @@ series_after_with xs c n o q none theory ruling =
 
 -- ---- a call that leaves the series, or the book
 
-roll_stays : (xs : List Call) (c : Call) (r : Roll) → terms_in c ≡ [] → ((n : ℕ) (o : Option ℤ) → theory_left n o c ≡ o)
-    → ((n : ℕ) (q : Option Ruling) → ruling_left n q c ≡ q) → RollTold xs r → RollTold (xs ++ (c ∷ [])) r
+roll_stays : (xs : List Call) (c : Call) (r : Roll) → terms_in c ≡ [] → ((n : ℕ) (o : Option ℤ) → theory_next n o c ≡ o)
+    → ((n : ℕ) (q : Option Ruling) → ruling_next n q c ≡ q) → RollTold xs r → RollTold (xs ++ (c ∷ [])) r
 roll_stays xs c r none theory ruling t = record {
   series = λ n. t.series n
       ∙ sym (series_after_with xs c n (last_theory n xs) (last_ruling n xs) none (theory n (last_theory n xs))
@@ -172,7 +172,7 @@ listed_named ladders l s =
 told_listing : (ladders : ℕ) (xs : List Call) (l : Listing) (s : State) → is_ok (listed_terms ladders l s) ≡ true
     → RollTold xs s.roll → RollTold (xs ++ (ListCall l ∷ [])) (moved (listed_terms ladders l s) (λ terms. record { phase = s.phase; roll = with_listed terms s.roll }) s).roll
 told_listing ladders xs l s ok t =
-    let f = found (listed_terms ladders l s) ok in
+    let f = ok_value (listed_terms ladders l s) ok in
     let is : f.0 ≡ terms_by (family_of l.family) l =
     subst (λ (r : Result Terms HouseFault). IfOk r (λ (terms : Terms). terms ≡ terms_by (family_of l.family) l)) f.1
     (listed_named ladders l s)
@@ -221,7 +221,7 @@ told_theory xs z value s ok t =
     let c = SetTheory z value in
     let met = both_met (is_listed r.count z) (side_lawful value) NoSuchSeries SuppliedBeyondLimits ok in
     let number = listed_number r.count z met.0 in
-    let f = found (theory_answer z value s) ok in
+    let f = ok_value (theory_answer z value s) ok in
     subst (λ (a : Result Unit HouseFault). RollTold (xs ++ (c ∷ []))
     (moved a (λ _. record { phase = s.phase; roll = changed k (with_theory value x) r }) s).roll) (sym f.1)
     (roll_changed xs c r k (with_theory value x) refl number.0
@@ -248,7 +248,7 @@ told_ruling xs z value first s ok t =
     let ruling = ruling_of value first in
     let met = both_met (is_listed r.count z) (may_rule value first) NoSuchSeries SuppliedBeyondLimits ok in
     let number = listed_number r.count z met.0 in
-    let f = found (ruling_answer z value first s) ok in
+    let f = ok_value (ruling_answer z value first s) ok in
     subst (λ (a : Result Unit HouseFault). RollTold (xs ++ (c ∷ []))
     (moved a (λ _. record { phase = s.phase; roll = changed k (with_ruling ruling x) r }) s).roll) (sym f.1)
     (roll_changed xs c r k (with_ruling ruling x) refl number.0
@@ -263,13 +263,13 @@ told_ruling xs z value first s ok t =
 -- ---- bells
 
 -- a call that rings no bell leaves the phase
-phase_kept : (xs : List Call) (c : Call) (p : Phase) → ((q : Phase) → phase_left q c ≡ q) → p ≡ phase_after xs
+phase_kept : (xs : List Call) (c : Call) (p : Phase) → ((q : Phase) → phase_next q c ≡ q) → p ≡ phase_after xs
     → p ≡ phase_after (xs ++ (c ∷ []))
-phase_kept xs c p none is = is ∙ sym (fold_push phase_left phases.Listing xs c ∙ none (phase_after xs))
+phase_kept xs c p none is = is ∙ sym (fold_push phase_next phases.Listing xs c ∙ none (phase_after xs))
 
 -- and so it does where it changes the state otherwise
 phase_stays : {A : Type 0} (xs : List Call) (c : Call) (r : Result A HouseFault) (move : A → State) (s : State)
-    → ((p : Phase) → phase_left p c ≡ p) → ((a : A) → (move a).phase ≡ s.phase) → s.phase ≡ phase_after xs
+    → ((p : Phase) → phase_next p c ≡ p) → ((a : A) → (move a).phase ≡ s.phase) → s.phase ≡ phase_after xs
     → (moved r move s).phase ≡ phase_after (xs ++ (c ∷ []))
 phase_stays xs c r move s none same is = by r ∙ phase_kept xs c s.phase none is
   where
@@ -304,7 +304,7 @@ told_entry : (d : Day) (k : ℕ) (lawful : ℕ → ℤ → Bool) (xs : List Call
     → is_ok (entry_answer lawful m e s) ≡ true → BookTold d k xs m
     → BookTold d k (xs ++ (Enter e ∷ [])) (entry_after lawful e s m)
 told_entry d k lawful xs e s m ok t =
-    let taken = admitted m e (sym (found (answer m e) (book_ok (entry_passed lawful m.day e s) (answer m e) ok)).1) in
+    let taken = admitted m e (sym (ok_value (take_answer m e) (book_ok (entry_passed lawful m.day e s) (take_answer m e) ok)).1) in
     let day : m.day ≡ d = ap (λ (l : Ledger). l.day) t.records in
     let count : m.count ≡ length (entries xs) = ap (λ (l : Ledger). l.count) t.records in
     let capacity : m.capacity ≡ k = ap (λ (l : Ledger). l.capacity) t.records in
@@ -314,7 +314,7 @@ told_entry d k lawful xs e s m ok t =
     let long = length_push (entries xs) e in
     let few : length (entries xs ++ (e ∷ [])) ≤ k = omega arith in
     record {
-      records = ap (λ a. moved a (λ _. with_taken m e) m) (found (entry_answer lawful m e s) ok).1
+      records = ap (λ a. moved a (λ _. with_taken m e) m) (ok_value (entry_answer lawful m e s) ok).1
           ∙ ap (λ l. with_taken l e) t.records
           ∙ sym (recorded_push d k (entries xs) e)
           ∙ ap (recorded d k) (sym more);
@@ -326,7 +326,7 @@ told_entry d k lawful xs e s m ok t =
 -- ---- any call taken
 
 pub told_call : (d : Day) (k ladders : ℕ) (lawful : ℕ → ℤ → Bool) (xs : List Call) (c : Call) (w : World)
-    → is_taken ladders lawful c w ≡ true → Told d k xs w → Told d k (xs ++ (c ∷ [])) (next ladders lawful c w)
+    → is_taken ladders lawful c w ≡ true → Told d k xs w → Told d k (xs ++ (c ∷ [])) (after_call ladders lawful c w)
 told_call d k ladders lawful xs (ListCall l) w ok t = record {
   phase = phase_stays xs (ListCall l) (listed_terms ladders l w.state) _ w.state (λ p. refl) (λ a. refl) t.phase;
   roll = told_listing ladders xs l w.state (sym (listed_ok w.state.roll.count (listed_terms ladders l w.state)) ∙ ok) t.roll;
@@ -336,7 +336,7 @@ told_call d k ladders lawful xs (Ring b) w ok t = record {
   phase =
       let r = rung w.state.phase b in
       phase_rung w.state.phase b w.state (sym (ok_with_ok tt r) ∙ sym (ok_with_ok _ (ok_with tt r)) ∙ ok)
-      ∙ sym (fold_push phase_left phases.Listing xs (Ring b));
+      ∙ sym (fold_push phase_next phases.Listing xs (Ring b));
   roll = subst (RollTold (xs ++ (Ring b ∷ []))) (sym (bell_leaves (rung w.state.phase b) w.state))
       (roll_stays xs (Ring b) w.state.roll refl (λ n o. refl) (λ n q. refl) t.roll);
   book = book_stays d k xs (Ring b) w.book refl t.book;

@@ -3,7 +3,7 @@ use Rattle.std.proofs.Common.{◌≡◌, ℕ, Bool, List, [], ◌∷◌, ◌++�
 use Rattle.std.proofs.lemmas.List.{append_assoc, append-nil}
 use Rattle.std.proofs.lemmas.Bool.{cases_Bool, cond-false, cond-true}
 use Rattle.book.specs.declared.days.Day.{Day}
-use Rattle.calls.specs.Worlds.{World, is_taken, new_world, next}
+use Rattle.calls.specs.Worlds.{World, is_taken, new_world, after_call}
 use Rattle.runs.specs.Runs.{after_run, calls_taken}
 use Rattle.calls.specs.declared.call.Call.{Call}
 use Rattle.runs.specs.Told.{Told}
@@ -24,7 +24,7 @@ told_more d k ladders lawful xs (c ∷ calls) w t =
     (cases_Bool (is_taken ladders lawful c w))
   where
     then : World
-    then = next ladders lawful c w
+    then = after_call ladders lawful c w
 
     rest : List Call
     rest = calls_taken ladders lawful calls then

@@ -5,7 +5,7 @@ use Rattle.book.specs.Ledgers.{Ledger}
 use Rattle.book.specs.declared.days.Day.{Day}
 use Rattle.book.specs.declared.entries.Entry.{Entry}
 use Rattle.rows.specs.declared.places.Edition.{Edition}
-use Rattle.house.specs.Answers.{path}
+use Rattle.house.specs.Outcomes.{path}
 use Rattle.house.specs.Houses.{set_of}
 use Rattle.house.specs.Questions.{is_open, settle_answer}
 use Rattle.house.specs.Rolls.{is_listed}
@@ -16,11 +16,11 @@ use Rattle.house.specs.declared.series.Series.{Series}
 use Rattle.runs.specs.Added.{Among}
 use Rattle.runs.specs.PathEntries.{entries_on}
 use Rattle.runs.specs.Raised.{EntryRaised, Relation, SeriesRaised}
-use Rattle.runs.specs.Readings.{entries, terms_listed, phase_after, series_after}
+use Rattle.runs.specs.ByCalls.{entries, terms_listed, phase_after, series_after}
 use Rattle.calls.specs.Worlds.{World, new_world, world}
 use Rattle.runs.specs.Runs.{after_run, calls_taken}
 use Rattle.calls.specs.declared.call.Call.{Call}
-use Rattle.runs.specs.declared.comparing.Run as runs
+use Rattle.runs.specs.declared.comparing.Run as run_structs
 
 -- calls made on a house and a book, over so many ladders with these lawful prices
 pub record RunMeaning : Type 0 where
@@ -36,12 +36,12 @@ run_of size lawful h m calls =
     record { ladders = size set; lawful = lawful set; start = world h m; calls = calls }
 
 -- as it is handed to a call
-abbrev pub run_in : {L B : Type 0} {bound : _} → (L → ℕ) → (L → ℕ → ℤ → Bool) → (B → Ledger) → runs.Run L B bound → RunMeaning
+abbrev pub run_in : {L B : Type 0} {bound : _} → (L → ℕ) → (L → ℕ → ℤ → Bool) → (B → Ledger) → run_structs.Run L B bound → RunMeaning
 run_in size lawful meaning r = run_of size lawful r.house.now (meaning r.book.now) r.calls.now
 
 -- what stands in the end, and the calls that were not refused
-abbrev pub end : RunMeaning → World
-end r = after_run r.ladders r.lawful r.calls r.start
+abbrev pub end_world : RunMeaning → World
+end_world r = after_run r.ladders r.lawful r.calls r.start
 
 abbrev pub calls_taken_in : RunMeaning → List Call
 calls_taken_in r = calls_taken r.ladders r.lawful r.calls r.start
@@ -52,7 +52,7 @@ Outcome = Result Settlement HouseFault
 
 -- in the end of a run
 abbrev pub answer_in : RunMeaning → ℤ → Edition → Outcome
-answer_in r n ed = settle_answer r.lawful ed n (end r).state (end r).book
+answer_in r n ed = settle_answer r.lawful ed n (end_world r).state (end_world r).book
 
 -- a new house and an empty book of the day
 abbrev pub new_run : {L : Type 0} → (L → ℕ) → (L → ℕ → ℤ → Bool) → L → Day → ℕ → List Call → RunMeaning

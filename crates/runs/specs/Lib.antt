@@ -2,6 +2,6 @@ pub mod PathEntries
 pub mod Raised
 pub mod Added
 pub mod Runs
-pub mod Readings
+pub mod ByCalls
 pub mod Told
 pub mod Laws

@@ -6,7 +6,7 @@ use Rattle.book.specs.Records.{every, recorded}
 use Rattle.book.specs.declared.days.Day.{Day}
 use Rattle.house.specs.Rolls.{Roll}
 use Rattle.house.specs.Series.{blank, lawful_series}
-use Rattle.runs.specs.Readings.{entries, terms_listed, phase_after, series_after}
+use Rattle.runs.specs.ByCalls.{entries, terms_listed, phase_after, series_after}
 use Rattle.calls.specs.Worlds.{World}
 use Rattle.calls.specs.declared.call.Call.{Call}
 

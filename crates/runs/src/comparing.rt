@@ -1,7 +1,7 @@
 // Two runs, whatever the makes of the ladder sets and of the books, and the same question asked after each.
 ghost use Rattle.std.specs.Prelude.{◌≡◌, min, length};
 ghost use Rattle.house.specs.Houses.{set_of};
-ghost use Rattle.runs.specs.Laws.{Alike, Comparable, Laws, answer_in, end, new_run, run_in};
+ghost use Rattle.runs.specs.Laws.{Alike, Comparable, Laws, answer_in, end_world, new_run, run_in};
 ghost use Rattle.calls.specs.Worlds.{world};
 
 use crate::running::run;
@@ -33,7 +33,7 @@ impl<L: LadderSet, B: Book> Run<'_, L, B> {
     fn make_and_ask(self, series: i64, edition: Edition) -> Result<Settlement, HouseFault>
         ensures answer { result ≡ answer_in (run_in L.size L.lawful B.meaning self.entry) series edition }
         ensures after { world self.exit.0.now (B.meaning self.exit.1.0.now)
-            ≡ end (run_in L.size L.lawful B.meaning self.entry) }
+            ≡ end_world (run_in L.size L.lawful B.meaning self.entry) }
         ensures set { set_of self.exit.0.now ≡ set_of self.entry.house.now }
     {
         let Run { house, book, calls } = self;
@@ -43,7 +43,7 @@ impl<L: LadderSet, B: Book> Run<'_, L, B> {
 }
 
 /// What the houses of two runs answer, the first run's first.
-pub type Answers = (
+pub type Outcomes = (
     Result<Settlement, HouseFault>,
     Result<Settlement, HouseFault>,
 );
@@ -55,13 +55,13 @@ fn ask_both<K: LadderSet, J: Book, L: LadderSet, B: Book>(
     second: Run<'_, L, B>,
     series: i64,
     edition: Edition,
-) -> Answers
+) -> Outcomes
     ensures one { result.0 ≡ answer_in (run_in K.size K.lawful J.meaning first.entry) series edition }
     ensures other { result.1 ≡ answer_in (run_in L.size L.lawful B.meaning second.entry) series edition }
     ensures first_after { world first.exit.0.now (J.meaning first.exit.1.0.now)
-        ≡ end (run_in K.size K.lawful J.meaning first.entry) }
+        ≡ end_world (run_in K.size K.lawful J.meaning first.entry) }
     ensures second_after { world second.exit.0.now (B.meaning second.exit.1.0.now)
-        ≡ end (run_in L.size L.lawful B.meaning second.entry) }
+        ≡ end_world (run_in L.size L.lawful B.meaning second.entry) }
     ensures first_set { set_of first.exit.0.now ≡ set_of first.entry.house.now }
     ensures second_set { set_of second.exit.0.now ≡ set_of second.entry.house.now }
 {
@@ -85,14 +85,14 @@ pub fn compare<K: LadderSet, J: Book, L: LadderSet, B: Book>(
     second: Run<'_, L, B>,
     series: i64,
     edition: Edition,
-) -> Answers
+) -> Outcomes
     ensures laws { let first_run = run_in K.size K.lawful J.meaning first.entry in
         let second_run = run_in L.size L.lawful B.meaning second.entry in
         Laws Comparable first_run second_run series edition result.0 result.1 }
     ensures first_after { world first.exit.0.now (J.meaning first.exit.1.0.now)
-        ≡ end (run_in K.size K.lawful J.meaning first.entry) }
+        ≡ end_world (run_in K.size K.lawful J.meaning first.entry) }
     ensures second_after { world second.exit.0.now (B.meaning second.exit.1.0.now)
-        ≡ end (run_in L.size L.lawful B.meaning second.entry) }
+        ≡ end_world (run_in L.size L.lawful B.meaning second.entry) }
     ensures first_set { set_of first.exit.0.now ≡ set_of first.entry.house.now }
     ensures second_set { set_of second.exit.0.now ≡ set_of second.entry.house.now }
 {
@@ -112,7 +112,7 @@ pub fn compare_makes<K: LadderSet + Drop, L: LadderSet + Drop>(
     other_calls: &[Call],
     series: i64,
     edition: Edition,
-) -> Answers
+) -> Outcomes
     ensures laws { let first_run = new_run K.size K.lawful set day (min capacity 30000) calls.now in
         let second_run = new_run L.size L.lawful other_set day (min (length slots.old) 30000) other_calls.now in
         Laws Alike first_run second_run series edition result.0 result.1 }

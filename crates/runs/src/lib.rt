@@ -1,4 +1,4 @@
-// Runs of calls on a house and its book, and what stands after them.
+// Runs of calls on a house and its book, and two runs compared.
 #![tactic(auto)]
 
 pub mod comparing;

@@ -5,25 +5,25 @@ use Rattle.std.proofs.lemmas.List.{append-nil, append_assoc, drop-take, drop_at,
 use Rattle.std.proofs.lemmas.List.Concat.{flat_map-append}
 use Rattle.std.proofs.lemmas.List.Elements.{All-append, All-cons, All-head, All-nil, All-tail}
 use Rattle.lines.specs.Fields.{onto}
-use Rattle.stream.specs.Inputs.{AllSplit, SplitLines, Splits, Unbroken, ended, last_line, lines_of}
-use Rattle.stream.specs.Held.{held}
+use Rattle.stream.specs.Inputs.{AllSplit, SplitLines, Splits, Unbroken, with_newlines, last_line, lines_of}
+use Rattle.stream.specs.Held.{first_bytes}
 
 -- ---- what is held of a line
 
 -- what is held of a whole line
-pub held_short : (line : List ℕ) → length line ≤ 201 → held line ≡ line
+pub held_short : (line : List ℕ) → length line ≤ 201 → first_bytes line ≡ line
 held_short line h = take_all 201 line h
 
 -- of what is held, and of the line, the same is held after more bytes
-pub held_more : (line bytes : List ℕ) → held (held line ++ bytes) ≡ held (line ++ bytes)
+pub held_more : (line bytes : List ℕ) → first_bytes (first_bytes line ++ bytes) ≡ first_bytes (line ++ bytes)
 held_more line bytes =
     ⊎_elim
-    (λ h. take-append-le 201 (held line) bytes (omega (arith, length-take-le 201 line (omega arith))) ∙ take-take 201 201 line (omega arith) ∙ sym (take-append-le 201 line bytes (omega arith)))
-    (λ h. ap (λ l. held (l ++ bytes)) (held_short line (omega arith)))
+    (λ h. take-append-le 201 (first_bytes line) bytes (omega (arith, length-take-le 201 line (omega arith))) ∙ take-take 201 201 line (omega arith) ∙ sym (take-append-le 201 line bytes (omega arith)))
+    (λ h. ap (λ l. first_bytes (l ++ bytes)) (held_short line (omega arith)))
     (cases_lt 201 (length line))
 
 -- a front of at most 201 bytes, and of more bytes as many as there is room for
-pub held_room : (front bytes : List ℕ) → length front ≤ 201 → front ++ take (201 - length front) bytes ≡ held (front ++ bytes)
+pub held_room : (front bytes : List ℕ) → length front ≤ 201 → front ++ take (201 - length front) bytes ≡ first_bytes (front ++ bytes)
 held_room front bytes h =
     let n = length front in
     let k = 201 - n in
@@ -36,7 +36,7 @@ held_room front bytes h =
     ∙ ap (λ ys. front ++ ys) (drop-take n k xs ∙ ap (take k) (drop_at front bytes n refl)))
 
 -- the same, where no more bytes are taken than there are
-pub held_pushed : (front bytes : List ℕ) (n : ℕ) → length front ≡ n → n ≤ 201 → front ++ take (min (length bytes) (201 - n)) bytes ≡ held (front ++ bytes)
+pub held_pushed : (front bytes : List ℕ) (n : ℕ) → length front ≡ n → n ≤ 201 → front ++ take (min (length bytes) (201 - n)) bytes ≡ first_bytes (front ++ bytes)
 held_pushed front bytes n size few =
     let least : min (length bytes) (201 - n) ≡ min (201 - length front) (length bytes) = omega arith in
     ap (λ m. front ++ take m bytes) least
@@ -52,7 +52,7 @@ splits_open line h = record { whole = refl; unbroken = All-nil Unbroken; open_en
 -- a newline ends it
 pub splits_ended : (line : List ℕ) → Unbroken line → Splits (line ++ (10 ∷ [])) (line ∷ []) []
 splits_ended line h = record {
-  whole = sym (append-nil (ended (line ∷ [])) ∙ append-nil (line ++ (10 ∷ [])));
+  whole = sym (append-nil (with_newlines (line ∷ [])) ∙ append-nil (line ++ (10 ∷ [])));
   unbroken = All-cons Unbroken line [] h (All-nil Unbroken);
   open_end = All-nil (λ b. b ≢ 10);
 }
@@ -62,9 +62,9 @@ pub splits_join : (input more : List ℕ) (ls ms : List (List ℕ)) (rest last :
 splits_join input more ls ms rest last a b = record {
   whole =
       ap (λ xs. xs ++ more) a.whole
-      ∙ append_assoc (ended ls) rest more
-      ∙ ap (λ xs. ended ls ++ xs) b.whole
-      ∙ sym (append_assoc (ended ls) (ended ms) last)
+      ∙ append_assoc (with_newlines ls) rest more
+      ∙ ap (λ xs. with_newlines ls ++ xs) b.whole
+      ∙ sym (append_assoc (with_newlines ls) (with_newlines ms) last)
       ∙ ap (λ xs. xs ++ last) (sym (flat_map-append (λ line. line ++ (10 ∷ [])) ls ms));
   unbroken = All-append Unbroken ls ms a.unbroken b.unbroken;
   open_end = b.open_end;
@@ -89,11 +89,11 @@ rest_last (b ∷ bs) h =
     onto_last [] = refl
     onto_last (c ∷ cs) = refl
 
-split_lines : (ls : List (List ℕ)) (rest : List ℕ) → All Unbroken ls → Unbroken rest → lines_of (ended ls ++ rest) ≡ ls ++ last_line rest
+split_lines : (ls : List (List ℕ)) (rest : List ℕ) → All Unbroken ls → Unbroken rest → lines_of (with_newlines ls ++ rest) ≡ ls ++ last_line rest
 split_lines [] rest h k = rest_last rest k
 split_lines (l ∷ ls) rest h k =
-    ap lines_of (append_assoc (l ++ (10 ∷ [])) (ended ls) rest ∙ append_assoc l (10 ∷ []) (ended ls ++ rest))
-    ∙ ended_first l (ended ls ++ rest) (All-head Unbroken l ls h)
+    ap lines_of (append_assoc (l ++ (10 ∷ [])) (with_newlines ls) rest ∙ append_assoc l (10 ∷ []) (with_newlines ls ++ rest))
+    ∙ ended_first l (with_newlines ls ++ rest) (All-head Unbroken l ls h)
     ∙ ap (λ ms. l ∷ ms) (split_lines ls rest (All-tail Unbroken l ls h) k)
 
 pub lines_split : SplitLines

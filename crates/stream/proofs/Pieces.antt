@@ -8,9 +8,9 @@ use Rattle.std.proofs.lemmas.List.Elements.{All-append, All-from_get_or}
 use Rattle.memchr.specs.Find.{NoneBefore, Nowhere, Passes, is_byte}
 use Rattle.answers.specs.Texts.{answer_text}
 use Rattle.answers.specs.declared.faults.LineFault.{LineFault}
-use Rattle.desk.specs.Desks.{Standing}
+use Rattle.desk.specs.Desks.{DeskState}
 use Rattle.desk.specs.Responses.{Responded}
-use Rattle.stream.specs.Held.{InputClosed, LineEnded, LinesAnswered, AnswerPrinted, View, PieceAnswered, held}
+use Rattle.stream.specs.Held.{InputClosed, LineEnded, LinesAnswered, AnswerPrinted, View, PieceAnswered, first_bytes}
 use Rattle.stream.specs.Inputs.{Splits, Unbroken, last_line}
 use Rattle.stream.specs.Sessions.{printed, unsent}
 use Rattle.stream.specs.Transcripts.{IsTranscript}
@@ -18,17 +18,17 @@ use Rattle.stream.specs.declared.unsent.Unsent.{Unsent}
 use Rattle.stream.proofs.Cutting.{held_more, splits_ended, splits_join, splits_open}
 use Rattle.stream.proofs.OneTranscript.{transcript_held, transcript_join, transcript_line, transcript_none}
 
-pub lines_answered_none : (s : Standing) (old : List ℕ) → LinesAnswered s old [] [] s old
+pub lines_answered_none : (s : DeskState) (old : List ℕ) → LinesAnswered s old [] [] s old
 lines_answered_none s old = record {
-  goes = λ line h is.
+  answers_to = λ line h is.
       ([], line, subst (λ xs. Splits xs [] line) (sym (append-nil line)) (splits_open line h), transcript_none s, is);
 }
 
-pub lines_answered_join : (s t u : Standing) (a b c piece more out then : List ℕ) → LinesAnswered s a piece out t b → LinesAnswered t b more then u c → LinesAnswered s a (piece ++ more) (out ++ then) u c
+pub lines_answered_join : (s t u : DeskState) (a b c piece more out then : List ℕ) → LinesAnswered s a piece out t b → LinesAnswered t b more then u c → LinesAnswered s a (piece ++ more) (out ++ then) u c
 lines_answered_join s t u a b c piece more out then f g = record {
-  goes = λ line h is.
-      let x = f.goes line h is in
-      let y = g.goes x.1 x.2.open_end x.4 in (
+  answers_to = λ line h is.
+      let x = f.answers_to line h is in
+      let y = g.answers_to x.1 x.2.open_end x.4 in (
         x.0 ++ y.0,
         y.1,
         subst (λ xs. Splits xs (x.0 ++ y.0) y.1) (append_assoc line piece more) (splits_join (line ++ piece) more x.0 y.0 x.1 y.1 x.2 y.2),
@@ -38,14 +38,14 @@ lines_answered_join s t u a b c piece more out then f g = record {
 }
 
 -- bytes without a newline go on with the line
-pub lines_answered_open : (s : Standing) (old new bytes : List ℕ) → Unbroken bytes → new ≡ held (old ++ bytes) → LinesAnswered s old bytes [] s new
+pub lines_answered_open : (s : DeskState) (old new bytes : List ℕ) → Unbroken bytes → new ≡ first_bytes (old ++ bytes) → LinesAnswered s old bytes [] s new
 lines_answered_open s old new bytes other is = record {
-  goes = λ line h was. (
+  answers_to = λ line h was. (
     [],
     line ++ bytes,
     splits_open (line ++ bytes) (All-append (λ b. b ≢ 10) line bytes h other),
     transcript_none s,
-    is ∙ ap (λ l. held (l ++ bytes)) was ∙ held_more line bytes,
+    is ∙ ap (λ l. first_bytes (l ++ bytes)) was ∙ held_more line bytes,
   );
 }
 
@@ -66,10 +66,10 @@ written_length (Ok n) = n
 written_length (Err f) = 0
 
 -- a response to a line, printed with a newline
-pub said_line : (line : List ℕ) (s t : Standing) (before after : Option (List ℕ)) (out shown : List ℕ) (r : Result ℕ LineFault) (n : ℕ)
+pub printed_line : (line : List ℕ) (s t : DeskState) (before after : Option (List ℕ)) (out shown : List ℕ) (r : Result ℕ LineFault) (n : ℕ)
     → Responded line s (replicate 97 10) r out t → r ≡ Ok n → n ≤ 96 → shown ≡ take (n + 1) out → Appends before after shown
     → AnswerPrinted line s before after t
-said_line line s t before after out shown r n response ok short is_shown appended =
+printed_line line s t before after out shown r n response ok short is_shown appended =
     let x = response.long (omega arith) in
     let answer = x.0 in
     let y = x.2.long (omega arith) in
@@ -81,27 +81,27 @@ said_line line s t before after out shown r n response ok short is_shown appende
     }
 
 -- a held line that is nothing
-nothing_held : (line : List ℕ) → held line ≡ [] → line ≡ []
+nothing_held : (line : List ℕ) → first_bytes line ≡ [] → line ≡ []
 nothing_held [] e = refl
 nothing_held (b ∷ bs) e = absurd (omega (arith, ap length e))
 
 -- a line that stands whole in a piece
-pub ended_whole : (a b : View) (bytes : List ℕ) → a.held ≡ [] → b.held ≡ [] → AnswerPrinted bytes a.standing a.printed b.printed b.standing → LineEnded a bytes b
+pub ended_whole : (a b : View) (bytes : List ℕ) → a.held ≡ [] → b.held ≡ [] → AnswerPrinted bytes a.desk_state a.printed b.printed b.desk_state → LineEnded a bytes b
 ended_whole a b bytes none cleared x = record {
   out = x.out;
   written = x.written;
-  is_transcript = λ line was. subst (λ (l : List ℕ). IsTranscript a.standing ((l ++ bytes) ∷ []) x.out b.standing) (sym (nothing_held line (sym was ∙ none))) x.is_transcript;
+  is_transcript = λ line was. subst (λ (l : List ℕ). IsTranscript a.desk_state ((l ++ bytes) ∷ []) x.out b.desk_state) (sym (nothing_held line (sym was ∙ none))) x.is_transcript;
   held = cleared;
 }
 
 -- a line of which something was held
-pub ended_held : (a b : View) (bytes line : List ℕ) → line ≡ held (a.held ++ bytes) → b.held ≡ [] → AnswerPrinted line a.standing a.printed b.printed b.standing → LineEnded a bytes b
+pub ended_held : (a b : View) (bytes line : List ℕ) → line ≡ first_bytes (a.held ++ bytes) → b.held ≡ [] → AnswerPrinted line a.desk_state a.printed b.printed b.desk_state → LineEnded a bytes b
 ended_held a b bytes line is cleared x = record {
   out = x.out;
   written = x.written;
   is_transcript = λ whole was.
-      transcript_held (whole ++ bytes) a.standing b.standing x.out
-      (subst (λ (l : List ℕ). IsTranscript a.standing (l ∷ []) x.out b.standing) (is ∙ ap (λ l. held (l ++ bytes)) was ∙ held_more whole bytes) x.is_transcript);
+      transcript_held (whole ++ bytes) a.desk_state b.desk_state x.out
+      (subst (λ (l : List ℕ). IsTranscript a.desk_state (l ∷ []) x.out b.desk_state) (is ∙ ap (λ l. first_bytes (l ++ bytes)) was ∙ held_more whole bytes) x.is_transcript);
   held = cleared;
 }
 
@@ -111,7 +111,7 @@ piece_ended a b bytes other x = record {
   out = x.out;
   written = x.written;
   lines = record {
-    goes = λ line h was. (
+    answers_to = λ line h was. (
       (line ++ bytes) ∷ [],
       [],
       subst (λ xs. Splits xs ((line ++ bytes) ∷ []) []) (append_assoc line bytes (10 ∷ [])) (splits_ended (line ++ bytes) (All-append (λ b. b ≢ 10) line bytes h other)),
@@ -126,7 +126,7 @@ pub closed_none : (a : View) → a.held ≡ [] → InputClosed a a
 closed_none a none = record {
   out = [];
   written = Appends-nil a.printed;
-  last = λ line h was. subst (λ ls. IsTranscript a.standing ls [] a.standing) (sym (ap last_line (nothing_held line (sym was ∙ none)))) (transcript_none a.standing);
+  last = λ line h was. subst (λ ls. IsTranscript a.desk_state ls [] a.desk_state) (sym (ap last_line (nothing_held line (sym was ∙ none)))) (transcript_none a.desk_state);
   held = none;
 }
 
@@ -135,11 +135,11 @@ pub closed_line : (a b : View) → (a.held ≡ [] → ⊥) → LineEnded a [] b 
 closed_line a b some x = record {
   out = x.out;
   written = x.written;
-  last = λ line h was. one line was (subst (λ (l : List ℕ). IsTranscript a.standing (l ∷ []) x.out b.standing) (append-nil line) (x.is_transcript line was));
+  last = λ line h was. one line was (subst (λ (l : List ℕ). IsTranscript a.desk_state (l ∷ []) x.out b.desk_state) (append-nil line) (x.is_transcript line was));
   held = x.held;
 }
   where
-    one : (line : List ℕ) → a.held ≡ held line → IsTranscript a.standing (line ∷ []) x.out b.standing → IsTranscript a.standing (last_line line) x.out b.standing
+    one : (line : List ℕ) → a.held ≡ first_bytes line → IsTranscript a.desk_state (line ∷ []) x.out b.desk_state → IsTranscript a.desk_state (last_line line) x.out b.desk_state
     one [] was h = absurd (some was)
     one (c ∷ cs) was h = h
 
@@ -149,30 +149,30 @@ printed_none None u h = refl
 printed_none (Some xs) u h = ap (λ ys. Some (xs ++ ys)) h ∙ ap Some (append-nil xs)
 
 pub piece_none : (a : View) → PieceAnswered a [] a
-piece_none a = record { out = []; written = Appends-nil a.printed; lines = lines_answered_none a.standing a.held }
+piece_none a = record { out = []; written = Appends-nil a.printed; lines = lines_answered_none a.desk_state a.held }
 
 -- bytes without a newline
-pub piece_open : (printed : Option (List ℕ)) (s : Standing) (old new bytes : List ℕ) → Unbroken bytes → new ≡ held (old ++ bytes)
-    → PieceAnswered (record { printed = printed; standing = s; held = old }) bytes (record { printed = printed; standing = s; held = new })
+pub piece_open : (printed : Option (List ℕ)) (s : DeskState) (old new bytes : List ℕ) → Unbroken bytes → new ≡ first_bytes (old ++ bytes)
+    → PieceAnswered (record { printed = printed; desk_state = s; held = old }) bytes (record { printed = printed; desk_state = s; held = new })
 piece_open printed s old new bytes other is = record { out = []; written = Appends-nil printed; lines = lines_answered_open s old new bytes other is }
 
 pub piece_join : (a b c : View) (piece more : List ℕ) → PieceAnswered a piece b → PieceAnswered b more c → PieceAnswered a (piece ++ more) c
 piece_join a b c piece more x y = record {
   out = x.out ++ y.out;
   written = Appends-trans a.printed b.printed c.printed x.out y.out x.written y.written;
-  lines = lines_answered_join a.standing b.standing c.standing a.held b.held c.held piece more x.out y.out x.lines y.lines;
+  lines = lines_answered_join a.desk_state b.desk_state c.desk_state a.held b.held c.held piece more x.out y.out x.lines y.lines;
 }
 
 -- ---- a piece, newline by newline
 
 -- the front of a piece was gone through, and the rest is left
-pub record Gone (piece rest : List ℕ) (a b : View) : Type 0 where
+pub record AnsweredUpTo (piece rest : List ℕ) (a b : View) : Type 0 where
   pub front : List ℕ
   pub whole : piece ≡ front ++ rest
   pub answered : PieceAnswered a front b
 
-pub gone_none : (piece : List ℕ) (a : View) → Gone piece piece a a
-gone_none piece a = record { front = []; whole = refl; answered = piece_none a }
+pub up_to_none : (piece : List ℕ) (a : View) → AnsweredUpTo piece piece a a
+up_to_none piece a = record { front = []; whole = refl; answered = piece_none a }
 
 -- no newline stands before a place
 unbroken_before : (rest : List ℕ) (n : ℕ) → n ≤ length rest → Nowhere (Passes (is_byte 10) rest) 0 n → Unbroken (take n rest)
@@ -183,8 +183,8 @@ unbroken_before rest n h none =
     none i (omega arith) under (eq-eqb (get_or rest i 0) 10 (sym (get_or-take n rest i 0 under) ∙ is)))
 
 -- as far as the next newline
-pub gone_line : (piece rest : List ℕ) (n : ℕ) (a b c : View) → NoneBefore (Passes (is_byte 10) rest) 0 (length rest) n → Passes (is_byte 10) rest n → Gone piece rest a b → LineEnded b (take n rest) c → Gone piece (drop (n + 1) rest) a c
-gone_line piece rest n a b c first newline p x =
+pub up_to_line : (piece rest : List ℕ) (n : ℕ) (a b c : View) → NoneBefore (Passes (is_byte 10) rest) 0 (length rest) n → Passes (is_byte 10) rest n → AnsweredUpTo piece rest a b → LineEnded b (take n rest) c → AnsweredUpTo piece (drop (n + 1) rest) a c
+up_to_line piece rest n a b c first newline p x =
     let bytes = take n rest ++ (10 ∷ []) in
     let high = first.high in
     let up_to : take (n + 1) rest ≡ bytes = take_more rest n 0 high ∙ ap (λ b. take n rest ++ (b ∷ [])) (eqb-true (get_or rest n 0) 10 newline) in
@@ -199,11 +199,11 @@ gone_line piece rest n a b c first newline p x =
     }
 
 -- and to the end, where none is left
-pub gone_all : (piece rest new : List ℕ) (printed : Option (List ℕ)) (s : Standing) (old : List ℕ) (a : View)
-    → Nowhere (Passes (is_byte 10) rest) 0 (length rest) → Gone piece rest a (record { printed = printed; standing = s; held = old }) → new ≡ held (old ++ rest)
-    → PieceAnswered a piece (record { printed = printed; standing = s; held = new })
-gone_all piece rest new printed s old a none p is =
+pub up_to_all : (piece rest new : List ℕ) (printed : Option (List ℕ)) (s : DeskState) (old : List ℕ) (a : View)
+    → Nowhere (Passes (is_byte 10) rest) 0 (length rest) → AnsweredUpTo piece rest a (record { printed = printed; desk_state = s; held = old }) → new ≡ first_bytes (old ++ rest)
+    → PieceAnswered a piece (record { printed = printed; desk_state = s; held = new })
+up_to_all piece rest new printed s old a none p is =
     let unbroken : Unbroken rest = subst Unbroken (take_all (length rest) rest (omega arith)) (unbroken_before rest (length rest) (omega arith) none) in
-    subst (λ xs. PieceAnswered a xs (record { printed = printed; standing = s; held = new })) (sym p.whole)
-    (piece_join a (record { printed = printed; standing = s; held = old }) (record { printed = printed; standing = s; held = new }) p.front rest p.answered
+    subst (λ xs. PieceAnswered a xs (record { printed = printed; desk_state = s; held = new })) (sym p.whole)
+    (piece_join a (record { printed = printed; desk_state = s; held = old }) (record { printed = printed; desk_state = s; held = new }) p.front rest p.answered
     (piece_open printed s old new rest unbroken is))

@@ -5,7 +5,7 @@ use Rattle.std.proofs.KnownBytes.{Appends-kept, Appends-trans, Consumes-nil, Con
 use Rattle.std.proofs.lemmas.List.{append-nil}
 use Rattle.std.proofs.lemmas.List.Elements.{All-nil}
 use Rattle.book.specs.Ledgers.{Ledger}
-use Rattle.desk.specs.Desks.{Standing, waiting}
+use Rattle.desk.specs.Desks.{DeskState, waiting}
 use Rattle.stream.specs.Held.{InputClosed, LinesAnswered, Flushed, PieceTaken, View, PieceAnswered, at_first}
 use Rattle.stream.specs.Inputs.{last_line}
 use Rattle.stream.specs.Served.{Finished, Served}
@@ -28,8 +28,8 @@ piece_flushed : (a b c : View) (contents : Option (List ℕ)) (piece : List ℕ)
 piece_flushed a b c contents piece w f = record {
   out = w.out;
   written = Appends-kept a.printed contents c.printed w.out (Appends-kept a.printed b.printed contents w.out w.written f.sent) f.printed;
-  lines = subst (λ (s : Standing). LinesAnswered a.standing a.held piece w.out s c.held) (sym f.standing)
-      (subst (λ hs. LinesAnswered a.standing a.held piece w.out b.standing hs) (sym f.held) w.lines);
+  lines = subst (λ (s : DeskState). LinesAnswered a.desk_state a.held piece w.out s c.held) (sym f.desk_state)
+      (subst (λ hs. LinesAnswered a.desk_state a.held piece w.out b.desk_state hs) (sym f.held) w.lines);
 }
 
 pub piece_taken : (a b c : View) (contents : Option (List ℕ)) (piece : List ℕ) → PieceAnswered a piece b → Flushed b contents c → PieceTaken a piece contents c
@@ -46,19 +46,19 @@ reached_more x y z a b c piece r read answered = record {
 
 -- the end of the input
 pub served_all : (x y z contents after : Option (List ℕ)) (m : Ledger) (b d : View) (none : List ℕ)
-    → Reached x y (at_first contents m) b → Consumes y z none → none ≡ [] → IsAtEnd z → Finished b after d → Served x contents after m d.standing.book
+    → Reached x y (at_first contents m) b → Consumes y z none → none ≡ [] → IsAtEnd z → Finished b after d → Served x contents after m d.desk_state.book
 served_all x y z contents after m b d none r read is end f =
-    let goes = r.answered.lines.goes [] (All-nil (λ b. b ≢ 10)) refl in
-    let lines = goes.0 in
-    let rest = goes.1 in
+    let answers_to = r.answered.lines.answers_to [] (All-nil (λ b. b ≢ 10)) refl in
+    let lines = answers_to.0 in
+    let rest = answers_to.1 in
     record {
       input = r.input;
       out = r.answered.out ++ f.out;
-      stands = d.standing;
+      desk_state = d.desk_state;
       whole = Consumes-whole x z (r.input ++ none) (λ xs. r.input ≡ xs) (Consumes-trans x y z r.input none r.read read) end (sym (append-nil r.input) ∙ ap (λ ys. r.input ++ ys) (sym is));
       written = Appends-trans contents b.printed after r.answered.out f.out r.answered.written f.written;
-      is_transcript = subst (λ ls. IsTranscript (waiting m) ls (r.answered.out ++ f.out) d.standing) (sym (lines_split r.input lines rest goes.2))
-          (transcript_join (waiting m) b.standing d.standing lines (last_line rest) r.answered.out f.out goes.3 (f.last rest goes.2.open_end goes.4));
+      is_transcript = subst (λ ls. IsTranscript (waiting m) ls (r.answered.out ++ f.out) d.desk_state) (sym (lines_split r.input lines rest answers_to.2))
+          (transcript_join (waiting m) b.desk_state d.desk_state lines (last_line rest) r.answered.out f.out answers_to.3 (f.last rest answers_to.2.open_end answers_to.4));
       book = refl;
     }
 
@@ -67,7 +67,7 @@ pub finished : (a b c : View) (contents : Option (List ℕ)) → InputClosed a b
 finished a b c contents x f = record {
   out = x.out;
   written = Appends-kept a.printed b.printed contents x.out x.written f.sent;
-  last = λ line h was. subst (IsTranscript a.standing (last_line line) x.out) (sym f.standing) (x.last line h was);
+  last = λ line h was. subst (IsTranscript a.desk_state (last_line line) x.out) (sym f.desk_state) (x.last line h was);
   sent = f.printed;
   held = f.held ∙ x.held;
 }

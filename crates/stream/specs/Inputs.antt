@@ -13,12 +13,12 @@ abbrev pub Unbroken : List ℕ → Type 0
 Unbroken line = All (λ b. b ≢ 10) line
 
 -- each line with its newline
-abbrev pub ended : List (List ℕ) → List ℕ
-ended lines = flat_map (λ line. line ++ (10 ∷ [])) lines
+abbrev pub with_newlines : List (List ℕ) → List ℕ
+with_newlines lines = flat_map (λ line. line ++ (10 ∷ [])) lines
 
 -- an input is these lines, each with its newline, and then the rest of a line
 pub record Splits (input : List ℕ) (lines : List (List ℕ)) (rest : List ℕ) : Type 0 where
-  pub whole : input ≡ ended lines ++ rest
+  pub whole : input ≡ with_newlines lines ++ rest
   pub unbroken : All Unbroken lines
   pub open_end : Unbroken rest
 

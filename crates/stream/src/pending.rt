@@ -1,6 +1,6 @@
 // The line that has not ended yet.
 ghost use Rattle.std.specs.Prelude.{◌≡◌, ◌≤◌, [], ◌++◌};
-ghost use Rattle.stream.specs.Held.{held};
+ghost use Rattle.stream.specs.Held.{first_bytes};
 
 // One byte more than the longest line of a call.
 const KEPT: usize = 201;
@@ -14,10 +14,10 @@ pub(crate) struct Pending {
 }
 
 impl Pending {
-    ghost use Rattle.stream.specs.Sessions.{kept};
+    ghost use Rattle.stream.specs.Sessions.{pending_bytes};
 
     pub(crate) fn new() -> Pending
-        ensures { kept result ≡ [] }
+        ensures { pending_bytes result ≡ [] }
     {
         Pending {
             bytes: [0; KEPT],
@@ -26,14 +26,14 @@ impl Pending {
     }
 
     pub(crate) fn line(&self) -> &[u8]
-        ensures { result.now ≡ kept self.now }
+        ensures { result.now ≡ pending_bytes self.now }
     {
         &self.bytes[..self.len]
     }
 
     // More bytes of the line.
     pub(crate) fn push(&mut self, bytes: &[u8])
-        ensures { kept self.new ≡ held (kept self.old ++ bytes.now) }
+        ensures { pending_bytes self.new ≡ first_bytes (pending_bytes self.old ++ bytes.now) }
     {
         let n = bytes.len().min(KEPT - self.len);
         let end = self.len + n;
@@ -43,7 +43,7 @@ impl Pending {
 
     // The line has ended.
     pub(crate) fn clear(&mut self)
-        ensures { kept self.new ≡ [] }
+        ensures { pending_bytes self.new ≡ [] }
     {
         self.len = 0;
     }

@@ -37,14 +37,14 @@ fn next_piece<R: Read>(input: &mut R, piece: &mut [u8; PIECE]) -> io::Result<usi
 }
 
 /// Answers the lines of an input until it ends. Answers go out before the next piece is read, so that whoever waits for one has it.
-/// An error is the reader's or the writer's, and ends it; an interrupted read is tried again. The laws beside it are of the words that it is told in: no lines have two transcripts, and every
-/// input falls into lines in one way.
+/// An error is the reader's or the writer's, and ends it; an interrupted read is tried again. The laws beside it are of the words
+/// that it is told in: no lines have two transcripts, and every input falls into lines in one way.
 pub fn serve<B: Reusable, R: Read, W: Write>(
     book: &mut B,
     input: &mut R,
     output: &mut W,
 ) -> io::Result<()>
-    ensures served { OnOk result (Served (R.remaining input.old) (W.contents output.old) (W.contents output.new) (B.Book.meaning book.old) (B.Book.meaning book.new)) }
+    ensures served { OnOk result (Served (R.remaining input.old) (W.contents output.old) (W.contents output.new) (B.meaning book.old) (B.meaning book.new)) }
     ensures once { OneTranscript }
     ensures lines { SplitLines }
     ensures split { AllSplit }
@@ -61,8 +61,8 @@ pub fn serve<B: Reusable, R: Read, W: Write>(
     Err(ErrorKind::Other.into())
 }
 
-//// How many bytes `serve` holds beside the book: 11,320 for a session, which is the house, the line that has not ended and the
-//// answers not written yet; 8,192 for a piece of the input; and 97 for an answer with its newline.
+/// How many bytes `serve` holds beside the book: 11,320 for a session, which is the house, the line that has not ended and the
+/// answers not written yet; 8,192 for a piece of the input; and 97 for an answer with its newline.
 pub fn bytes_held() -> usize
     ensures { result ≡ 11320 + 8192 + 97 }
 {

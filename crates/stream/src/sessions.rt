@@ -1,7 +1,7 @@
 // A session: the desk, with what it holds of its input and of its output.
 ghost use Rattle.std.specs.Prelude.{◌≡◌, ℕ, List, Option, OnOk};
 ghost use Rattle.book.specs.Ledgers.{Ledger};
-ghost use Rattle.desk.specs.Desks.{standing};
+ghost use Rattle.desk.specs.Desks.{desk_state};
 ghost use Rattle.stream.specs.Held.{InputClosed, LineEnded, Flushed, PieceTaken, AnswerPrinted, PieceAnswered, at_first};
 ghost use Rattle.stream.specs.Served.{Finished};
 ghost use Rattle.stream.specs.Sessions.{printed, view_of};
@@ -26,7 +26,10 @@ fn print_answer<B: Reusable, W: Write>(
     writer: &mut W,
     line: &[u8],
 ) -> io::Result<()>
-    ensures { OnOk result (AnswerPrinted line.now (standing desk.old (B.Book.meaning book.old)) (printed (W.contents writer.old) unsent.old) (printed (W.contents writer.new) unsent.new) (standing desk.new (B.Book.meaning book.new))) }
+    ensures { let before = printed (W.contents writer.old) unsent.old in
+        let after = printed (W.contents writer.new) unsent.new in
+        let state = desk_state desk.old (B.meaning book.old) in
+        OnOk result (AnswerPrinted line.now state before after (desk_state desk.new (B.meaning book.new))) }
 {
     let mut answer = [NEWLINE; ROOM + 1];
     let n = desk.respond(book, line, &mut answer).unwrap();
@@ -60,7 +63,9 @@ impl Session {
         writer: &mut W,
         bytes: &[u8],
     ) -> io::Result<()>
-        ensures { OnOk result (LineEnded (view_of self.old (W.contents writer.old) (B.Book.meaning book.old)) bytes.now (view_of self.new (W.contents writer.new) (B.Book.meaning book.new))) }
+        ensures { let before = view_of self.old (W.contents writer.old) (B.meaning book.old) in
+            let after = view_of self.new (W.contents writer.new) (B.meaning book.new) in
+            OnOk result (LineEnded before bytes.now after) }
     {
         if self.pending.line().is_empty() {
             return print_answer(&mut self.desk, &mut self.unsent, book, writer, bytes);
@@ -79,7 +84,9 @@ impl Session {
         writer: &mut W,
         piece: &[u8],
     ) -> io::Result<()>
-        ensures { OnOk result (PieceAnswered (view_of self.old (W.contents writer.old) (B.Book.meaning book.old)) piece.now (view_of self.new (W.contents writer.new) (B.Book.meaning book.new))) }
+        ensures { let before = view_of self.old (W.contents writer.old) (B.meaning book.old) in
+            let after = view_of self.new (W.contents writer.new) (B.meaning book.new) in
+            OnOk result (PieceAnswered before piece.now after) }
     {
         let mut rest = piece;
         while let Some(end) = memchr(NEWLINE, rest) {
@@ -92,7 +99,9 @@ impl Session {
 
     // Answers what follows the last newline, if anything does.
     fn close<B: Reusable, W: Write>(&mut self, book: &mut B, writer: &mut W) -> io::Result<()>
-        ensures { OnOk result (InputClosed (view_of self.old (W.contents writer.old) (B.Book.meaning book.old)) (view_of self.new (W.contents writer.new) (B.Book.meaning book.new))) }
+        ensures { let before = view_of self.old (W.contents writer.old) (B.meaning book.old) in
+            let after = view_of self.new (W.contents writer.new) (B.meaning book.new) in
+            OnOk result (InputClosed before after) }
     {
         if self.pending.line().is_empty() {
             return Ok(());
@@ -102,7 +111,9 @@ impl Session {
 
     /// Hands to the writer all that was printed, and asks it to pass it on. An error is the writer's.
     pub fn flush<W: Write>(&mut self, writer: &mut W) -> io::Result<()>
-        ensures { OnOk result ((m : Ledger) → Flushed (view_of self.old (W.contents writer.old) m) (W.contents writer.new) (view_of self.new (W.contents writer.new) m)) }
+        ensures { OnOk result ((m : Ledger) →
+            let before = view_of self.old (W.contents writer.old) m in
+            Flushed before (W.contents writer.new) (view_of self.new (W.contents writer.new) m)) }
     {
         self.unsent.send(writer)?;
         writer.flush()
@@ -116,7 +127,9 @@ impl Session {
         writer: &mut W,
         piece: &[u8],
     ) -> io::Result<()>
-        ensures { OnOk result (PieceTaken (view_of self.old (W.contents writer.old) (B.Book.meaning book.old)) piece.now (W.contents writer.new) (view_of self.new (W.contents writer.new) (B.Book.meaning book.new))) }
+        ensures { let before = view_of self.old (W.contents writer.old) (B.meaning book.old) in
+            let after = view_of self.new (W.contents writer.new) (B.meaning book.new) in
+            OnOk result (PieceTaken before piece.now (W.contents writer.new) after) }
     {
         self.answer_piece(book, writer, piece)?;
         self.flush(writer)
@@ -124,7 +137,9 @@ impl Session {
 
     /// Answers what follows the last newline, if anything does: the input has ended. An error is the writer's.
     pub fn finish<B: Reusable, W: Write>(&mut self, book: &mut B, writer: &mut W) -> io::Result<()>
-        ensures { OnOk result (Finished (view_of self.old (W.contents writer.old) (B.Book.meaning book.old)) (W.contents writer.new) (view_of self.new (W.contents writer.new) (B.Book.meaning book.new))) }
+        ensures { let before = view_of self.old (W.contents writer.old) (B.meaning book.old) in
+            let after = view_of self.new (W.contents writer.new) (B.meaning book.new) in
+            OnOk result (Finished before (W.contents writer.new) after) }
     {
         self.close(book, writer)?;
         self.flush(writer)

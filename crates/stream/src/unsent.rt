@@ -29,7 +29,7 @@ impl Unsent {
 
     // Hands everything to the writer.
     pub(crate) fn send<W: Write>(&mut self, writer: &mut W) -> io::Result<()>
-        ensures kept { OnOk result (Keeps (printed (W.contents writer.old) self.old) (W.contents writer.new)) }
+        ensures same { OnOk result (Keeps (printed (W.contents writer.old) self.old) (W.contents writer.new)) }
         ensures empty { OnOk result (self.new.len ≡ 0) }
     {
         writer.write_all(&self.bytes[..self.len])?;
@@ -40,7 +40,7 @@ impl Unsent {
     // Makes room for so many bytes.
     fn make_room<W: Write>(&mut self, writer: &mut W, size: usize) -> io::Result<()>
         requires { size ≤ 97 }
-        ensures kept { OnOk result (Keeps (printed (W.contents writer.old) self.old) (printed (W.contents writer.new) self.new)) }
+        ensures same { OnOk result (Keeps (printed (W.contents writer.old) self.old) (printed (W.contents writer.new) self.new)) }
         ensures room { OnOk result (self.new.len + size ≤ 8192) }
     {
         if SIZE - self.len < size {

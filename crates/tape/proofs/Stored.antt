@@ -1,9 +1,9 @@
 -- What a tape knows of the entries that it stores: the first n of its places.
 use Rattle.std.proofs.Common.{◌≡◌, ℕ, ◌+◌, ◌<◌, ◌≤◌, min, true, List, length, take, set, Ok, sym, ap, ◌∙◌, arith}
 use Rattle.std.proofs.lemmas.List.{length-take-le, take_more_set, length-set}
-use Rattle.book.specs.Days.{is_lawful}
+use Rattle.book.specs.Days.{is_lawful_day}
 use Rattle.book.specs.Entries.{allowed}
-use Rattle.book.specs.Ledgers.{Lawful, after, with_taken, reply}
+use Rattle.book.specs.Ledgers.{Lawful, take_after, with_taken, admission}
 use Rattle.book.specs.Records.{every, recorded}
 use Rattle.book.specs.declared.days.Day.{Day}
 use Rattle.book.specs.declared.entries.Entry.{Entry}
@@ -13,7 +13,7 @@ use Rattle.book.proofs.Taking.{admitted, same_reply}
 pub few_stored : (slots : List Entry) (n : ℕ) → n ≤ length slots → n ≤ 30000 → length (take n slots) ≤ 30000
 few_stored slots n held few = let count = length-take-le n slots held in omega arith
 
-pub tape_is_lawful : (d : Day) (slots : List Entry) (n : ℕ) → is_lawful d ≡ true → n ≤ length slots → n ≤ 30000 → every (allowed d) (take n slots) ≡ true → Lawful (recorded d (min (length slots) 30000) (take n slots))
+pub tape_is_lawful : (d : Day) (slots : List Entry) (n : ℕ) → is_lawful_day d ≡ true → n ≤ length slots → n ≤ 30000 → every (allowed d) (take n slots) ≡ true → Lawful (recorded d (min (length slots) 30000) (take n slots))
 tape_is_lawful d slots n l held few h =
     let count = length-take-le n slots held in
     lawful_record d (min (length slots) 30000) (take n slots) l (omega arith) (omega arith) h
@@ -28,9 +28,9 @@ stored_more d slots n e h =
 pub record Stores (d : Day) (slots : List Entry) (n : ℕ) (e : Entry) : Type 0 where
   pub held : n + 1 ≤ length (set slots n e)
   pub allowed : every (allowed d) (take (n + 1) (set slots n e)) ≡ true
-  pub after : recorded d (min (length (set slots n e)) 30000) (take (n + 1) (set slots n e)) ≡ after (recorded d (min (length slots) 30000) (take n slots)) e
+  pub after : recorded d (min (length (set slots n e)) 30000) (take (n + 1) (set slots n e)) ≡ take_after (recorded d (min (length slots) 30000) (take n slots)) e
 
-pub stores : (d : Day) (slots : List Entry) (n k : ℕ) (e : Entry) → n ≤ length slots → n ≤ 30000 → every (allowed d) (take n slots) ≡ true → k ≡ min (length slots) 30000 → Ok tt ≡ reply d n k e → Stores d slots n e
+pub stores : (d : Day) (slots : List Entry) (n k : ℕ) (e : Entry) → n ≤ length slots → n ≤ 30000 → every (allowed d) (take n slots) ≡ true → k ≡ min (length slots) 30000 → Ok tt ≡ admission d n k e → Stores d slots n e
 stores d slots n k e held few all fit ok =
     let m = recorded d (min (length slots) 30000) (take n slots) in
     let count = length-take-le n slots held in

@@ -2,7 +2,7 @@
 use ladders::bands::Band;
 use ladders::faults::LadderFault;
 use ladders::laws::round_two;
-use ladders::rounding::{Rounded, is_lawful, nearest, round};
+use ladders::rounding::{Rounded, is_lawful_price, nearest, round};
 use ladders::rungs::Ladder;
 use ladders::sets::{EvenSet, LadderSet, SteppedSet};
 use ladders::worked::{Way, worked_roundings};
@@ -46,8 +46,8 @@ fn bands_meet_at_their_starts(rt: HostRuntime) -> Result<(), Fail> {
     assert_eq!(rt; round(&set, 0, (999, 1)), three(990, 1000, 1000));
     assert_eq!(rt; round(&set, 0, (1000, 1)), three(1000, 1000, 1000));
     assert_eq!(rt; round(&set, 0, (1001, 1)), three(1000, 1000, 1050));
-    assert!(rt; is_lawful(&set, 0, 990));
-    assert!(rt; !is_lawful(&set, 0, 1010));
+    assert!(rt; is_lawful_price(&set, 0, 990));
+    assert!(rt; !is_lawful_price(&set, 0, 1010));
     Ok(())
 }
 

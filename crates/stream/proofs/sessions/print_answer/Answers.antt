@@ -1,11 +1,11 @@
 use Rattle.std.proofs.Common.{◌≤◌, refl}
 use Rattle.std.proofs.lemmas.Result.{IfOk-at_ok, on_ok_weaker}
-use Rattle.stream.proofs.Pieces.{said_line}
+use Rattle.stream.proofs.Pieces.{printed_line}
 use Rattle.stream.proofs.sessions.print_answer.Goals as goal
 
 pub returns : goal.returns
 returns g c =
     on_ok_weaker c.put.result
-    (said_line c.args.line.now _ _ _ _ c.respond.new.out _ c.respond.result c.unwrap-n.result c.respond.ensures.responded c.unwrap-n.ensures
+    (printed_line c.args.line.now _ _ _ _ c.respond.new.out _ c.respond.result c.unwrap-n.result c.respond.ensures.responded c.unwrap-n.ensures
     (IfOk-at_ok (λ n. n ≤ 96) c.unwrap-n.ensures c.respond.ensures.short) refl)
     c.put.ensures

@@ -1,7 +1,7 @@
 use Rattle.std.proofs.Common.{◌≡◌, is_ok, Ok, Err, Result, sym, ap, ◌∙◌, ⊎_elim}
 use Rattle.std.specs.Result.{IfErr}
 use Rattle.std.proofs.lemmas.Bool.{both_ways}
-use Rattle.book.specs.Ledgers.{Ledger, after, answer}
+use Rattle.book.specs.Ledgers.{Ledger, take_after, take_answer}
 use Rattle.book.specs.declared.entries.Entry.{Entry}
 use Rattle.book.specs.declared.faults.BookFault.{BookFault}
 use Rattle.book.proofs.Taking.{taken_or_refused}
@@ -10,8 +10,8 @@ use Rattle.house.proofs.Demands.{passed_on}
 use Rattle.house.proofs.houses.House.enter.Goals as goal
 
 -- a book that refuses an entry is as it was
-as_it_was : (m : Ledger) (e : Entry) (f : BookFault) → Err f ≡ answer m e → after m e ≡ m
-as_it_was m e f is = ⊎_elim (λ p. absurd (both_ways (is_ok (answer m e)) (ap is_ok (sym is)) p.0)) (λ p. p.1) (taken_or_refused m e)
+as_it_was : (m : Ledger) (e : Entry) (f : BookFault) → Err f ≡ take_answer m e → take_after m e ≡ m
+as_it_was m e f is = ⊎_elim (λ p. absurd (both_ways (is_ok (take_answer m e)) (ap is_ok (sym is)) p.0)) (λ p. p.1) (taken_or_refused m e)
 
 -- what holds anyway holds of a refusal
 anyway : {A E P : Type 0} (r : Result A E) → P → IfErr r (λ _. P)

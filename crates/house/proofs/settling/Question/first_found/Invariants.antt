@@ -1,6 +1,6 @@
 use Rattle.std.proofs.Common.{◌≡◌, ◌+◌, drop}
 use Rattle.house.specs.Answers.{first_found, price_of, row_of}
-use Rattle.house.specs.Stations.{station_in}
+use Rattle.house.specs.QuestionStation.{station_in}
 use Rattle.house.specs.Found.{found}
 use Rattle.house.proofs.settling.Question.first_found.Given as goal
 

@@ -2,11 +2,11 @@ use Rattle.std.proofs.Common.{List, ℕ, ◌+◌, sym, subst}
 use Rattle.std.proofs.lemmas.List.{take_rest}
 use Rattle.stream.specs.Held.{View}
 use Rattle.stream.specs.Sessions.{view_of}
-use Rattle.stream.proofs.Pieces.{Gone, gone_all, gone_line, gone_none}
+use Rattle.stream.proofs.Pieces.{AnsweredUpTo, up_to_all, up_to_line, up_to_none}
 use Rattle.stream.proofs.sessions.Session.answer_piece.Goals as goal
 
 pub loop-end-init : goal.loop-end-init
-loop-end-init g c = gone_none c.args.piece.now (view_of c.args.self.now (g.W.Write.contents c.args.writer.now) (g.B.Book.meaning c.args.book.now))
+loop-end-init g c = up_to_none c.args.piece.now (view_of c.args.self.now (g.W.Write.contents c.args.writer.now) (g.B.Book.meaning c.args.book.now))
 
 pub loop-end-preserved : goal.loop-end-preserved
 loop-end-preserved g c =
@@ -16,8 +16,8 @@ loop-end-preserved g c =
     let a : View = view_of c.args.self.now (g.W.Write.contents c.args.writer.now) (g.B.Book.meaning c.args.book.now) in
     let b : View = view_of c.loop-end.self (g.W.Write.contents c.loop-end.writer) (g.B.Book.meaning c.loop-end.book) in
     let d : View = view_of c.end_line.new.self (g.W.Write.contents c.end_line.new.writer) (g.B.Book.meaning c.end_line.new.book) in
-    subst (λ (xs : List ℕ). Gone piece xs a d) (sym (take_rest rest (n + 1)))
-    (gone_line piece rest n a b d c.in-Some.ensures.0 c.in-Some.ensures.1 c.loop-end.invariant c.in_ok-end_line.ensures)
+    subst (λ (xs : List ℕ). AnsweredUpTo piece xs a d) (sym (take_rest rest (n + 1)))
+    (up_to_line piece rest n a b d c.in-Some.ensures.0 c.in-Some.ensures.1 c.loop-end.invariant c.in_ok-end_line.ensures)
 
 pub returns : goal.returns
-returns g c = gone_all c.args.piece.now c.loop-end.rest.now _ _ _ _ _ c.in_default.ensures c.loop-end.invariant c.push.ensures
+returns g c = up_to_all c.args.piece.now c.loop-end.rest.now _ _ _ _ _ c.in_default.ensures c.loop-end.invariant c.push.ensures

@@ -27,17 +27,17 @@ phase_by bells.Open = phases.Trading
 phase_by bells.Close = phases.Closed
 
 -- what a call leaves of the phase
-abbrev pub phase_left : Phase → Call → Phase
-phase_left before (ListCall t) = before
-phase_left before (Ring b) = phase_by b
-phase_left before (Enter e) = before
-phase_left before (SetTheory m value) = before
-phase_left before (SetRuling m value first) = before
-phase_left before (Settle m edition) = before
+abbrev pub phase_next : Phase → Call → Phase
+phase_next before (ListCall t) = before
+phase_next before (Ring b) = phase_by b
+phase_next before (Enter e) = before
+phase_next before (SetTheory m value) = before
+phase_next before (SetRuling m value first) = before
+phase_next before (Settle m edition) = before
 
 -- the phase that the last bell left; at first listing
 abbrev pub phase_after : List Call → Phase
-phase_after calls = fold phase_left phases.Listing calls
+phase_after calls = fold phase_next phases.Listing calls
 
 -- ---- the series listed
 
@@ -61,30 +61,30 @@ terms_listed calls = flat_map terms_in calls
 -- ---- the values supplied
 
 -- what a call leaves of the theory value of the series numbered n
-abbrev pub theory_left : ℕ → Option ℤ → Call → Option ℤ
-theory_left n before (ListCall t) = before
-theory_left n before (Ring b) = before
-theory_left n before (Enter e) = before
-theory_left n before (SetTheory m value) = cond (is_series n m) value before
-theory_left n before (SetRuling m value first) = before
-theory_left n before (Settle m edition) = before
+abbrev pub theory_next : ℕ → Option ℤ → Call → Option ℤ
+theory_next n before (ListCall t) = before
+theory_next n before (Ring b) = before
+theory_next n before (Enter e) = before
+theory_next n before (SetTheory m value) = cond (is_series n m) value before
+theory_next n before (SetRuling m value first) = before
+theory_next n before (Settle m edition) = before
 
 -- the value that the last call for its theory value left; at first it is missing
 abbrev pub last_theory : ℕ → List Call → Option ℤ
-last_theory n calls = fold (theory_left n) None calls
+last_theory n calls = fold (theory_next n) None calls
 
 -- what a call leaves of the ruling of the series numbered n
-abbrev pub ruling_left : ℕ → Option Ruling → Call → Option Ruling
-ruling_left n before (ListCall t) = before
-ruling_left n before (Ring b) = before
-ruling_left n before (Enter e) = before
-ruling_left n before (SetTheory m value) = before
-ruling_left n before (SetRuling m value first) = cond (is_series n m) (ruling_of value first) before
-ruling_left n before (Settle m edition) = before
+abbrev pub ruling_next : ℕ → Option Ruling → Call → Option Ruling
+ruling_next n before (ListCall t) = before
+ruling_next n before (Ring b) = before
+ruling_next n before (Enter e) = before
+ruling_next n before (SetTheory m value) = before
+ruling_next n before (SetRuling m value first) = cond (is_series n m) (ruling_of value first) before
+ruling_next n before (Settle m edition) = before
 
 -- the ruling that the last call for it left; at first it is missing
 abbrev pub last_ruling : ℕ → List Call → Option Ruling
-last_ruling n calls = fold (ruling_left n) None calls
+last_ruling n calls = fold (ruling_next n) None calls
 
 -- ---- the series and the book
 
