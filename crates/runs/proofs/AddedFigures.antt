@@ -16,7 +16,7 @@ use Rattle.book.specs.declared.figures.Last.{Last}
 use Rattle.book.specs.declared.figures.Values.{Values}
 use Rattle.book.proofs.Ranges.{allowed_kind}
 use Rattle.runs.specs.Added.{Among, is_addition}
-use Rattle.runs.specs.Raised.{Relation}
+use Rattle.runs.specs.Relations.{Relation}
 use Rattle.runs.specs.PathEntries.{entries_on, on_path}
 use Rattle.runs.proofs.PathFigures.{every_on_path, related_figures}
 

@@ -6,7 +6,7 @@ use Rattle.rows.specs.declared.places.Edition.{Edition}
 use Rattle.house.specs.Answers.{Answer, answered, path_answer}
 use Rattle.house.specs.Found.{Station}
 use Rattle.house.specs.Series.{lawful_series}
-use Rattle.runs.specs.Raised.{Matched, Relation}
+use Rattle.runs.specs.Relations.{Matched, Relation}
 
 -- what the house and the book keep of a station: a lawful series, and in each window figures of some number of entries
 pub record StationLawful (x : Station) : Type 0 where

@@ -33,7 +33,8 @@ use Rattle.calls.specs.declared.call.Call.{Call}
 use Rattle.runs.specs.Added.{Among}
 use Rattle.runs.specs.PathEntries.{entries_on, on_path}
 use Rattle.runs.specs.Laws.{Alike, Comparable, Law, Laws, MayAskAfter, NoLater, NotLower, Outcome, RunMeaning, answer_in, calls_taken_in, end_world, new_run, path_of, run_of}
-use Rattle.runs.specs.Raised.{EntryRaised, Relation, SeriesRaised}
+use Rattle.runs.specs.Raised.{EntryRaised, SeriesRaised}
+use Rattle.runs.specs.Relations.{Relation}
 use Rattle.runs.specs.ByCalls.{entries, series_after}
 use Rattle.runs.specs.Told.{Told}
 use Rattle.runs.proofs.AddedFigures.{more_figures}

@@ -19,7 +19,7 @@ use Rattle.house.specs.Found.{Station, average, finds, found, less, quoted}
 use Rattle.house.specs.declared.answers.Settlement.{Settlement}
 use Rattle.house.specs.declared.series.Ruling as rulings
 use Rattle.house.specs.declared.series.Series.{Series}
-use Rattle.runs.specs.Raised.{Matched, Relation}
+use Rattle.runs.specs.Relations.{Matched, Relation}
 use Rattle.runs.specs.Laws.{NoLater}
 use Rattle.runs.proofs.AddedFigures.{StillThere, ValuesMore}
 use Rattle.runs.proofs.Along.{LawfulPair, StationLawful, along, lawful_pairs}

@@ -8,7 +8,7 @@ use Rattle.book.specs.declared.days.Day.{Day}
 use Rattle.book.specs.declared.entries.Entry.{Entry}
 use Rattle.book.specs.declared.figures.Figures.{Figures}
 use Rattle.book.proofs.RecordedEvidence.{evidence}
-use Rattle.runs.specs.Raised.{Relation}
+use Rattle.runs.specs.Relations.{Relation}
 use Rattle.runs.specs.PathEntries.{entries_on, on_path}
 
 -- a filter after a wider one keeps what it keeps alone

@@ -29,7 +29,8 @@ use Rattle.house.specs.Found.{Station, above_theory, average, finds, found, less
 use Rattle.house.specs.declared.answers.Settlement.{Settlement}
 use Rattle.house.specs.declared.series.Ruling as rulings
 use Rattle.house.specs.declared.series.Series.{Series}
-use Rattle.runs.specs.Raised.{Matched, Relation, RulingBy, SeriesRaised}
+use Rattle.runs.specs.Raised.{RulingBy, SeriesRaised}
+use Rattle.runs.specs.Relations.{Matched, Relation}
 use Rattle.runs.specs.Laws.{NotLower}
 use Rattle.runs.proofs.Along.{LawfulPair, StationLawful, along, lawful_pairs}
 use Rattle.runs.proofs.Inside.{average_inside, middle_inside, whole_inside}

@@ -19,7 +19,8 @@ use Rattle.book.specs.declared.figures.Sides.{Sides}
 use Rattle.book.specs.declared.figures.Values.{Values}
 use Rattle.book.proofs.Ranges.{allowed_kind}
 use Rattle.runs.specs.PathEntries.{entries_on, on_path}
-use Rattle.runs.specs.Raised.{EntryRaised, KindBy, Matched, Relation}
+use Rattle.runs.specs.Raised.{EntryRaised, KindBy}
+use Rattle.runs.specs.Relations.{Matched, Relation}
 use Rattle.runs.proofs.PathFigures.{every_on_path, related_figures}
 
 -- ---- figures raised

@@ -15,7 +15,8 @@ use Rattle.house.specs.declared.houses.House.{House}
 use Rattle.house.specs.declared.series.Series.{Series}
 use Rattle.runs.specs.Added.{Among}
 use Rattle.runs.specs.PathEntries.{entries_on}
-use Rattle.runs.specs.Raised.{EntryRaised, Relation, SeriesRaised}
+use Rattle.runs.specs.Raised.{EntryRaised, SeriesRaised}
+use Rattle.runs.specs.Relations.{Relation}
 use Rattle.runs.specs.ByCalls.{entries, terms_listed, phase_after, series_after}
 use Rattle.calls.specs.Worlds.{World, new_world, world}
 use Rattle.runs.specs.Runs.{after_run, calls_taken}

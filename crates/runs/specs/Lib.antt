@@ -1,4 +1,5 @@
 pub mod PathEntries
+pub mod Relations
 pub mod Raised
 pub mod Added
 pub mod Runs

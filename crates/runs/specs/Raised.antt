@@ -1,20 +1,11 @@
 -- Entries and series that differ in their prices only, each price in a relation to its counterpart; with `◌≤ℤ◌`, raised.
-use Rattle.std.specs.Prelude.{◌≡◌, ℤ, ◌≤ℤ◌, Some, None, Option}
+use Rattle.std.specs.Prelude.{◌≡◌, ℤ, ◌≤ℤ◌, Option}
 use Rattle.book.specs.declared.entries.Entry.{Entry}
 use Rattle.book.specs.declared.entries.Kind.{Kind}
 use Rattle.book.specs.declared.entries.Kind.TheVariants.{Trade, Auction, Leg, Spread, Quote}
 use Rattle.house.specs.declared.series.Ruling.{Ruling}
 use Rattle.house.specs.declared.series.Series.{Series}
-
-abbrev pub Relation : Type 0 → Type 1
-Relation X = X → X → Type 0
-
--- both missing, or both there and related
-abbrev pub Matched : {V : Type 0} → Relation V → Relation (Option V)
-Matched R None None = Unit {0}
-Matched R None (Some w) = ⊥
-Matched R (Some v) None = ⊥
-Matched R (Some v) (Some w) = R v w
+use Rattle.runs.specs.Relations.{Matched, Relation}
 
 -- ---- over a relation of prices
 
