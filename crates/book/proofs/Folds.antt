@@ -38,19 +38,20 @@ every_sound d (e ∷ es) l h =
 pub sound_parts : (e : Entry) → sound e ≡ true → (stamp_small e.stamp ≡ true) × (kind_lawful e.kind ≡ true)
 sound_parts e h = and_parts (stamp_small e.stamp) (kind_lawful e.kind) h
 
-bounded_from : (n s : ℕ) (x : ℤ × ℤ) (f : Figures) (es : List Entry) → every sound es ≡ true → bounded n (values f) ≡ true → bounded (n + length es) (values (fold (entered_in s x) f es)) ≡ true
-bounded_from n s x f [] h b = subst (λ (k : ℕ). bounded k (values f) ≡ true) (sym (add-zero n)) b
-bounded_from n s x f (e ∷ es) h b =
-    let both = and_parts (sound e) (every sound es) h in
+pub bounded_from : (ok : Entry → Bool) → ((e : Entry) → ok e ≡ true → kind_lawful e.kind ≡ true) → (n s : ℕ) (x : ℤ × ℤ) (f : Figures) (es : List Entry)
+    → every ok es ≡ true → bounded n (values f) ≡ true → bounded (n + length es) (values (fold (entered_in s x) f es)) ≡ true
+bounded_from ok kind n s x f [] h b = subst (λ (k : ℕ). bounded k (values f) ≡ true) (sym (add-zero n)) b
+bounded_from ok kind n s x f (e ∷ es) h b =
+    let both = and_parts (ok e) (every ok es) h in
     let count : (n + 1) + length es ≡ n + length (e ∷ es) = omega arith in
     subst (λ (k : ℕ). bounded k (values (fold (entered_in s x) (entered_in s x f e) es)) ≡ true) count
-    (bounded_from (n + 1) s x (entered_in s x f e) es both.1 (bounded_entered n s x f e (sound_parts e both.0).1 b))
+    (bounded_from ok kind (n + 1) s x (entered_in s x f e) es both.1 (bounded_entered n s x f e (kind e both.0) b))
 
 -- the figures of sound entries are within the bounds of their number
 pub bounded_fold : (s : ℕ) (x : ℤ × ℤ) (es : List Entry) → every sound es ≡ true → bounded (length es) (values (fold (entered_in s x) empty es)) ≡ true
 bounded_fold s x es h =
     let count : 0 + length es ≡ length es = omega arith in
-    subst (λ (k : ℕ). bounded k (values (fold (entered_in s x) empty es)) ≡ true) count (bounded_from 0 s x empty es h (bounded_empty 0))
+    subst (λ (k : ℕ). bounded k (values (fold (entered_in s x) empty es)) ≡ true) count (bounded_from sound (λ e k. (sound_parts e k).1) 0 s x empty es h (bounded_empty 0))
 
 -- few enough sound entries all enter: the sums never lack room
 same_from : (n s : ℕ) (x : ℤ × ℤ) (f : Figures) (es : List Entry) → n + length es ≤ 30000 → every sound es ≡ true → bounded n (values f) ≡ true → fold (entered_if s x) f es ≡ fold (entered_in s x) f es

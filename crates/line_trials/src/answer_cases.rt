@@ -8,6 +8,7 @@ use house::faults::HouseFault;
 use ladders::faults::LadderFault;
 use lines::faults::NotRead;
 use rows::steps::Step;
+use std::test::Fail;
 
 fn price(series: i64, price: i64, step: Step, place: u8) -> Result<Reply, LineFault> {
     let settlement = Settlement { price, step, place };
@@ -64,4 +65,41 @@ fn a_short_buffer(rt: HostRuntime) {
         Err(LineFault::ShortBuffer)
     );
     assert_eq!(rt; out, [b'.'; 95]);
+}
+
+#[test]
+fn texts(rt: HostRuntime) -> Result<(), Fail> {
+    let texts = [
+        (LineFault::NoDay, "no day line was taken yet"),
+        (LineFault::SecondDay, "a further day line"),
+        (
+            LineFault::Day(DayFault::NotLawful),
+            "the day record is not lawful",
+        ),
+        (
+            LineFault::Ladders(LadderFault::TickOutOfRange),
+            "a tick is not 1 to 1000000",
+        ),
+        (
+            LineFault::House(HouseFault::NoPrice(3)),
+            "no step finds a price for series 3",
+        ),
+        (
+            LineFault::House(HouseFault::Book(BookFault::Full)),
+            "the book is full",
+        ),
+        (
+            LineFault::NotRead(NotRead { place: 9 }),
+            "not of the grammar from byte 9 on",
+        ),
+        (
+            LineFault::ShortBuffer,
+            "the buffer for the answer has fewer than 96 bytes",
+        ),
+    ];
+    for (fault, text) in texts {
+        let printed = format!(in rt.alloc(); "{fault}")?;
+        assert_eq!(rt; printed.as_str(), text);
+    }
+    Ok(())
 }

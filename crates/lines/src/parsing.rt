@@ -13,7 +13,7 @@ use crate::line_calls::LineCall;
 use crate::names::Command;
 use crate::readers::{LONGEST, Reader};
 use crate::tuples::FromFields;
-use crate::value_fields::FromField;
+use crate::values::FromField;
 use book::days::Day;
 use book::entries::{Entry, Kind};
 use calls::call::Call;

@@ -1,23 +1,22 @@
 -- Two runs compared, by the calls taken in each.
-use Rattle.std.proofs.Common.{◌≡◌, ℕ, ◌+◌, Bool, true, ◌||◌, List, [], ◌∷◌, map, length, ℤ, pos, nat_abs, Ok, Err, fold, sym, refl, ap, ◌∙◌, subst, add-zero, arith}
+use Rattle.std.proofs.Common.{◌≡◌, ℕ, ◌+◌, Bool, true, ◌||◌, List, [], ◌∷◌, map, length, ℤ, pos, nat_abs, Ok, Err, sym, refl, ap, ◌∙◌, subst}
 use Rattle.std.proofs.Math.Path.{subst₂}
 use Rattle.std.specs.List.{AllZip, AllByRecursion}
-use Rattle.std.proofs.lemmas.Bool.{and_parts, eq-eqb, or_right}
+use Rattle.std.proofs.lemmas.Bool.{eq-eqb, or_right}
 use Rattle.std.proofs.lemmas.List.Elements.{same_from_all_zip}
-use Rattle.book.specs.Bounds.{bounded}
 use Rattle.book.specs.Entries.{allowed}
-use Rattle.book.specs.Figures.{empty, entered_in, is_series, values}
+use Rattle.book.specs.Figures.{empty, is_series, values}
 use Rattle.book.specs.Ledgers.{Ledger, fresh}
 use Rattle.book.specs.Records.{every, figures_of}
 use Rattle.book.specs.Windows.{edges}
 use Rattle.book.specs.declared.days.Day.{Day}
 use Rattle.book.specs.declared.entries.Entry.{Entry}
-use Rattle.book.specs.declared.figures.Figures.{Figures}
-use Rattle.book.proofs.Growth.{bounded_empty, bounded_entered}
+use Rattle.book.proofs.Folds.{bounded_from}
+use Rattle.book.proofs.Growth.{bounded_empty}
 use Rattle.book.proofs.Ranges.{allowed_kind}
 use Rattle.ladders.specs.Rounding.{Near}
 use Rattle.rows.specs.declared.places.Edition.{Edition}
-use Rattle.house.specs.Outcomes.{Answer, answer_at, path_answer, references, station_of}
+use Rattle.house.specs.Answers.{Answer, answer_at, path_answer, references, station_of}
 use Rattle.house.specs.Calls.{new_state}
 use Rattle.house.specs.Found.{Station}
 use Rattle.house.specs.Houses.{set_of, state}
@@ -54,16 +53,6 @@ station_by_calls d xs n = record { number = n; series = series_after xs n; figur
 abbrev answer_by_calls : (ℕ → ℤ → Bool) → Edition → Day → List Call → ℕ → Answer
 answer_by_calls P ed d xs n = path_answer P ed (station_by_calls d xs n) (map (station_by_calls d xs) (references (series_after xs) n))
 
--- figures of allowed entries are bounded
-bounded_all : (d : Day) (s : ℕ) (x : ℤ × ℤ) (n : ℕ) (f : Figures) (es : List Entry) → every (allowed d) es ≡ true
-    → bounded n (values f) ≡ true → bounded (n + length es) (values (fold (entered_in s x) f es)) ≡ true
-bounded_all d s x n f [] h b = subst (λ (j : ℕ). bounded j (values f) ≡ true) (sym (add-zero n)) b
-bounded_all d s x n f (e ∷ es) h b =
-    let both = and_parts (allowed d e) (every (allowed d) es) h in
-    let count : (n + 1) + length es ≡ n + length (e ∷ es) = omega arith in
-    subst (λ (j : ℕ). bounded j (values (fold (entered_in s x) (entered_in s x f e) es)) ≡ true) count
-    (bounded_all d s x (n + 1) (entered_in s x f e) es both.1 (bounded_entered n s x f e (allowed_kind d e both.0) b))
-
 module _ (d : Day) (k : ℕ) (xs : List Call) (w : World) (told : Told d k xs w) where
   -- what the house would answer
   answer_is_by_calls : (P : ℕ → ℤ → Bool) (ed : Edition) (n : ℕ) → answer_at P ed w.state w.book n ≡ answer_by_calls P ed d xs n
@@ -74,7 +63,7 @@ module _ (d : Day) (k : ℕ) (xs : List Call) (w : World) (told : Told d k xs w)
   station_lawful : (n : ℕ) → StationLawful (station_by_calls d xs n)
   station_lawful n = record {
     series = ap (lawful_series n) (sym (told.roll.series n)) ∙ told.roll.lawful n;
-    figures = λ v. (0 + length (entries xs), bounded_all d n (edges d v) 0 empty (entries xs) told.book.lawful (bounded_empty 0));
+    figures = λ v. (0 + length (entries xs), bounded_from (allowed d) (allowed_kind d) 0 n (edges d v) empty (entries xs) told.book.lawful (bounded_empty 0));
   }
 
   all_lawful : (ns : List ℕ) → AllByRecursion StationLawful (map (station_by_calls d xs) ns)

@@ -5,7 +5,7 @@ use Rattle.book.specs.Ledgers.{Ledger}
 use Rattle.book.specs.declared.days.Day.{Day}
 use Rattle.book.specs.declared.entries.Entry.{Entry}
 use Rattle.rows.specs.declared.places.Edition.{Edition}
-use Rattle.house.specs.Outcomes.{path}
+use Rattle.house.specs.Answers.{path}
 use Rattle.house.specs.Houses.{set_of}
 use Rattle.house.specs.Questions.{is_open, settle_answer}
 use Rattle.house.specs.Rolls.{is_listed}
