@@ -1,6 +1,6 @@
 use Rattle.std.proofs.Common.{refl, arith}
 use Rattle.lines.proofs.Cuts.{some_left}
-use Rattle.lines.proofs.readers.Reader.end.Goals as goal
+use Rattle.lines.proofs.readers.Reader.expect_end.Goals as goal
 
 pub returns-then-self : goal.returns-then-self
 returns-then-self c =
