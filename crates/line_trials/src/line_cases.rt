@@ -1,4 +1,4 @@
-// Lines of every command, and the places of lines that are not of the grammar.
+// Lines of every command, and a value that may not be missing.
 use book::days::Day;
 use book::entries::{Entry, Kind};
 use calls::call::Call;
@@ -114,32 +114,4 @@ fn bells_and_questions(rt: HostRuntime) {
             value: Some(0),
         }))
     );
-}
-
-#[test]
-fn places_of_fields(rt: HostRuntime) {
-    assert_eq!(rt; parse(b""), Err(NotRead { place: 0 }));
-    assert_eq!(rt; parse(b" bell open"), Err(NotRead { place: 0 }));
-    assert_eq!(rt; parse(b"bells open"), Err(NotRead { place: 0 }));
-    assert_eq!(rt; parse(b"bell"), Err(NotRead { place: 4 }));
-    assert_eq!(rt; parse(b"bell  open"), Err(NotRead { place: 5 }));
-    assert_eq!(rt; parse(b"bell shut"), Err(NotRead { place: 5 }));
-    assert_eq!(rt; parse(b"bell open "), Err(NotRead { place: 9 }));
-    assert_eq!(rt; parse(b"bell open now"), Err(NotRead { place: 9 }));
-    assert_eq!(rt; parse(b"trade 0 90000 5"), Err(NotRead { place: 15 }));
-}
-
-#[test]
-fn places_of_numbers(rt: HostRuntime) {
-    assert_eq!(rt; parse(b"theory 0 -0"), Err(NotRead { place: 9 }));
-    assert_eq!(rt; parse(b"theory 0 05"), Err(NotRead { place: 9 }));
-    assert_eq!(rt; parse(b"theory 0 10000000000"), Err(NotRead { place: 9 }));
-    assert_eq!(rt; parse(b"theory 0 +5"), Err(NotRead { place: 9 }));
-    assert_eq!(rt; parse(b"ruling 0 5 2"), Err(NotRead { place: 11 }));
-}
-
-#[test]
-fn a_long_line(rt: HostRuntime) {
-    assert_eq!(rt; parse(&[b'x'; 200]), Err(NotRead { place: 0 }));
-    assert_eq!(rt; parse(&[b'x'; 201]), Err(NotRead { place: 200 }));
 }

@@ -1,8 +1,7 @@
-// Examples: the worked roundings, the borders of bands from both sides, and the ends of the range of ticks at both limits.
+// Examples: the worked roundings, the ends of the range of ticks at both limits, and two makes with the same lawful prices.
 use ladders::bands::Band;
-use ladders::faults::LadderFault;
 use ladders::laws::round_two;
-use ladders::rounding::{Rounded, is_lawful_price, nearest, round};
+use ladders::rounding::{Rounded, nearest, round};
 use ladders::rungs::Ladder;
 use ladders::sets::{EvenSet, LadderSet, SteppedSet};
 use ladders::worked::{Way, worked_roundings};
@@ -30,28 +29,6 @@ fn worked_roundings_come_out(rt: HostRuntime) -> Result<(), Fail> {
 }
 
 #[test]
-fn bands_meet_at_their_starts(rt: HostRuntime) -> Result<(), Fail> {
-    let bands = [
-        Band {
-            start: None,
-            tick: 10,
-        },
-        Band {
-            start: Some(1000),
-            tick: 50,
-        },
-    ];
-    let set = SteppedSet::new(&[&bands[0..2]])?;
-    assert_eq!(rt; round(&set, 0, (994, 1)), three(990, 990, 1000));
-    assert_eq!(rt; round(&set, 0, (999, 1)), three(990, 1000, 1000));
-    assert_eq!(rt; round(&set, 0, (1000, 1)), three(1000, 1000, 1000));
-    assert_eq!(rt; round(&set, 0, (1001, 1)), three(1000, 1000, 1050));
-    assert!(rt; is_lawful_price(&set, 0, 990));
-    assert!(rt; !is_lawful_price(&set, 0, 1010));
-    Ok(())
-}
-
-#[test]
 fn limits_hold(rt: HostRuntime) -> Result<(), Fail> {
     let set = EvenSet::new(&[1, 1_000_000, 7])?;
     assert_eq!(rt; set.count(), 3);
@@ -68,44 +45,6 @@ fn limits_hold(rt: HostRuntime) -> Result<(), Fail> {
         Some(-1_000_000_001)
     );
     Ok(())
-}
-
-#[test]
-fn unlawful_descriptions_are_refused(rt: HostRuntime) {
-    assert_eq!(rt;
-        EvenSet::new(&[1, 0]).err(),
-        Some(LadderFault::TickOutOfRange)
-    );
-    assert_eq!(rt;
-        EvenSet::new(&[1, 1_000_001]).err(),
-        Some(LadderFault::TickOutOfRange)
-    );
-    assert_eq!(rt;
-        EvenSet::new(&[1; 17]).err(),
-        Some(LadderFault::TooManyLadders)
-    );
-    let bands = [
-        Band {
-            start: None,
-            tick: 10,
-        },
-        Band {
-            start: Some(1010),
-            tick: 50,
-        },
-    ];
-    assert_eq!(rt;
-        SteppedSet::new(&[&bands[0..2]]).err(),
-        Some(LadderFault::StartOffTick)
-    );
-    assert_eq!(rt;
-        SteppedSet::new(&[&bands[1..2]]).err(),
-        Some(LadderFault::StartMisplaced)
-    );
-    assert_eq!(rt;
-        SteppedSet::new(&[&bands[0..0]]).err(),
-        Some(LadderFault::NoBand)
-    );
 }
 
 // An even and a stepped ladder of one tick have the same lawful prices, so the two makes answer alike.

@@ -1,4 +1,4 @@
-// Small cases of ladders, books and rows, worked out by hand from the rules. In a crate of their own, since a crate with tests is
+// Small cases of ladders and books, worked out by hand from the rules. In a crate of their own, since a crate with tests is
 // proved twice.
 #![tactic(auto)]
 
@@ -6,5 +6,3 @@
 mod book_cases;
 #[cfg(test)]
 mod ladder_cases;
-#[cfg(test)]
-mod row_cases;
