@@ -46,8 +46,8 @@ impl<'a> Reader<'a> {
     ghost use Rattle.lines.specs.Fields.{fields};
     ghost use Rattle.lines.specs.Reading.{NoneLeft, NextField, left, line_of, left_start};
 
-    /// The line's first field, and the reader of those after it.
-    pub fn begin(line: &'a [u8]) -> (Field<'a>, Reader<'a>)
+    // The line's first field, and the reader of those after it.
+    pub(crate) fn begin(line: &'a [u8]) -> (Field<'a>, Reader<'a>)
         requires { length line.now ≤ 200 }
         ensures line { line_of result.1 ≡ line.now }
         ensures cut { fields line.now ≡ result.0.bytes.now ∷ left result.1 }
