@@ -1,90 +1,85 @@
--- The table of codes tells the rows.
-use Rattle.std.proofs.Common.{◌≡◌, ℕ, zero, suc, ◌-◌, ◌/◌, ◌%◌, ◌<◌, Bool, true, false, List, [], ◌∷◌, map, get_or, Some, None, Option, refl, ap, ◌∙◌, arith}
-use Rattle.rows.specs.Codes.{at, code, code_at, choices, choice_number, decoded, padded, step_number, steps, table, window_number, window_of, with_window}
+-- The codes of the table stand for the rows in letters.
+use Rattle.std.proofs.Common.{◌≡◌, ℕ, zero, suc, ◌-◌, ◌≤◌, Bool, true, leb, List, [], ◌∷◌, length, map, get_or, Some, None, Option, sym, refl, ap, ◌∙◌, subst, arith}
+use Rattle.std.proofs.Math.ListN.{get_or-map}
+use Rattle.std.proofs.lemmas.Bool.{leb-true}
+use Rattle.rows.specs.Codes.{at, choice_number, code_at, codes_of, decoded}
 use Rattle.rows.specs.Families.{number}
-use Rattle.rows.specs.RowRules.{Fitting, looks}
+use Rattle.rows.specs.RowRules.{PlaceLawful, RowLawful}
 use Rattle.rows.specs.Rows.{row}
 use Rattle.rows.specs.declared.families.Family.{Family}
 use Rattle.rows.specs.declared.families.Family.TheVariants.{LongBond, FollowingBond, OtherBond, MiniBond, ThreeMonthRate, FrontIndex, LaterIndex, CopiedIndex, TheoryIndex, ForeignIndex, DeliveredCommodity, CashCommodity, DeliveredGrain, NearOption, OtherOption}
 use Rattle.rows.specs.declared.places.Choice.{Choice}
 use Rattle.rows.specs.declared.places.Choice.TheVariants.{Close, LastDay, QuarterEnd, Morning}
 use Rattle.rows.specs.declared.places.Place.{Place}
-use Rattle.rows.specs.declared.steps.Step.{Step}
-use Rattle.rows.specs.declared.steps.Step.TheVariants.{Auction, Trade, Quote, Average, Theory, TheoryUp, Spread, PreviousSpread, Copy, Previous, Ruling}
+use Rattle.rows.specs.declared.tables.TheConstants.{TABLE}
 use Rattle.rows.proofs.RowTest.{row_lawful}
 
--- ---- a code is decoded to its place
+-- a row on so many places, the last of them empty
+abbrev padded : ℕ → List Place → List (Option Place)
+padded zero ps = []
+padded (suc n) [] = None ∷ padded n []
+padded (suc n) (p ∷ ps) = Some p ∷ padded n ps
 
-by_number : (s : Step) → get_or steps (step_number s) None ≡ Some s
-by_number Auction = refl
-by_number Trade = refl
-by_number Quote = refl
-by_number Average = refl
-by_number Theory = refl
-by_number TheoryUp = refl
-by_number Spread = refl
-by_number PreviousSpread = refl
-by_number Copy = refl
-by_number Previous = refl
-by_number Ruling = refl
+-- what the four rows of a family, as they stand in the table, have to stand for, which the checker computes
+abbrev Told : Family → Choice → Type 0
+Told f c = (map decoded (codes_of f c) ≡ padded 6 (row f c)) × (leb (length (row f c)) 6 ≡ true)
 
-window_back : (b : Bool) (w : Option ℕ) → Fitting b w → (window_of (window_number w) ≡ w) × (window_number w < 16)
-window_back true None f = absurd f
-window_back true (Some zero) f = absurd (omega arith)
-window_back true (Some (suc n)) f = (refl, omega arith)
-window_back false None f = (refl, omega arith)
-window_back false (Some w) f = absurd f
+abbrev AllTold : Family → Type 0
+AllTold f = Told f Close × Told f LastDay × Told f QuarterEnd × Told f Morning
 
-decoded_code : (p : Place) → Fitting (looks p.step) p.window → decoded (code p) ≡ Some p
-decoded_code p f =
-    let window = window_back (looks p.step) p.window f in
-    let small = window.1 in
-    let s = step_number p.step in
-    let w = window_number p.window in
-    let step : code p / 16 ≡ s = omega arith in
-    let rest : code p % 16 ≡ w = omega arith in
-    ap (λ n. with_window (get_or steps n None) (code p % 16)) step
-    ∙ ap (λ o. with_window o (code p % 16)) (by_number p.step)
-    ∙ ap (with_window (Some p.step)) rest
-    ∙ ap (λ o. Some (record { step = p.step; window = o })) window.0
+all_told : (f : Family) → AllTold f
+all_told LongBond = ((refl, refl), (refl, refl), (refl, refl), (refl, refl))
+all_told FollowingBond = ((refl, refl), (refl, refl), (refl, refl), (refl, refl))
+all_told OtherBond = ((refl, refl), (refl, refl), (refl, refl), (refl, refl))
+all_told MiniBond = ((refl, refl), (refl, refl), (refl, refl), (refl, refl))
+all_told ThreeMonthRate = ((refl, refl), (refl, refl), (refl, refl), (refl, refl))
+all_told FrontIndex = ((refl, refl), (refl, refl), (refl, refl), (refl, refl))
+all_told LaterIndex = ((refl, refl), (refl, refl), (refl, refl), (refl, refl))
+all_told CopiedIndex = ((refl, refl), (refl, refl), (refl, refl), (refl, refl))
+all_told TheoryIndex = ((refl, refl), (refl, refl), (refl, refl), (refl, refl))
+all_told ForeignIndex = ((refl, refl), (refl, refl), (refl, refl), (refl, refl))
+all_told DeliveredCommodity = ((refl, refl), (refl, refl), (refl, refl), (refl, refl))
+all_told CashCommodity = ((refl, refl), (refl, refl), (refl, refl), (refl, refl))
+all_told DeliveredGrain = ((refl, refl), (refl, refl), (refl, refl), (refl, refl))
+all_told NearOption = ((refl, refl), (refl, refl), (refl, refl), (refl, refl))
+all_told OtherOption = ((refl, refl), (refl, refl), (refl, refl), (refl, refl))
 
--- ---- the codes of a row
+told : (f : Family) (c : Choice) → Told f c
+told f Close = (all_told f).0
+told f LastDay = (all_told f).1
+told f QuarterEnd = (all_told f).2
+told f Morning = (all_told f).3
 
-row_decoded : (n : ℕ) (ps : List Place) → ((k : ℕ) (p : Place) → at ps k ≡ Some p → Fitting (looks p.step) p.window) → (k : ℕ) → k < n → decoded (get_or (padded n ps) k 0) ≡ at ps k
-row_decoded zero ps f k h = absurd (omega arith)
-row_decoded (suc n) [] f zero h = refl
-row_decoded (suc n) [] f (suc k) h = row_decoded n [] f k (omega arith)
-row_decoded (suc n) (p ∷ ps) f zero h = decoded_code p (f 0 p refl)
-row_decoded (suc n) (p ∷ ps) f (suc k) h = row_decoded n ps (λ j q e. f (suc j) q e) k (omega arith)
+pub row_short : (f : Family) (c : Choice) → length (row f c) ≤ 6
+row_short f c = leb-true (length (row f c)) 6 (told f c).1
 
--- ---- where they stand
+padded_at : (n : ℕ) (ps : List Place) (k : ℕ) → length ps ≤ n → get_or (padded n ps) k None ≡ at ps k
+padded_at zero [] k h = refl
+padded_at zero (p ∷ ps) k h = absurd (omega arith)
+padded_at (suc n) [] zero h = refl
+padded_at (suc n) [] (suc k) h = padded_at n [] k (omega arith)
+padded_at (suc n) (p ∷ ps) zero h = refl
+padded_at (suc n) (p ∷ ps) (suc k) h = padded_at n ps k (omega arith)
 
-family_rows : (f : Family) → get_or table (number f - 1) [] ≡ map (λ c. padded 6 (row f c)) choices
-family_rows LongBond = refl
-family_rows FollowingBond = refl
-family_rows OtherBond = refl
-family_rows MiniBond = refl
-family_rows ThreeMonthRate = refl
-family_rows FrontIndex = refl
-family_rows LaterIndex = refl
-family_rows CopiedIndex = refl
-family_rows TheoryIndex = refl
-family_rows ForeignIndex = refl
-family_rows DeliveredCommodity = refl
-family_rows CashCommodity = refl
-family_rows DeliveredGrain = refl
-family_rows NearOption = refl
-family_rows OtherOption = refl
+-- the codes of a row in the table stand for its places, and for none past its end
+pub codes_tell : (f : Family) (c : Choice) (k : ℕ) → decoded (code_at f c k) ≡ at (row f c) k
+codes_tell f c k =
+    sym (get_or-map decoded (codes_of f c) k 0)
+    ∙ ap (λ os. get_or os k None) (told f c).0
+    ∙ padded_at 6 (row f c) k (row_short f c)
 
-choice_row : (f : Family) (c : Choice) → get_or (map (λ d. padded 6 (row f d)) choices) (choice_number c) [] ≡ padded 6 (row f c)
-choice_row f Close = refl
-choice_row f LastDay = refl
-choice_row f QuarterEnd = refl
-choice_row f Morning = refl
+past : (ps : List Place) (k : ℕ) → length ps ≤ k → at ps k ≡ None
+past [] k h = refl
+past (p ∷ ps) zero h = absurd (omega arith)
+past (p ∷ ps) (suc k) h = past ps k (omega arith)
 
--- the codes of a row in the table are decoded to its places
-pub codes_tell : (f : Family) (c : Choice) (k : ℕ) → k < 6 → decoded (code_at f c k) ≡ at (row f c) k
-codes_tell f c k h =
-    ap (λ rows. decoded (get_or (get_or rows (choice_number c) []) k 0)) (family_rows f)
-    ∙ ap (λ xs. decoded (get_or xs k 0)) (choice_row f c)
-    ∙ row_decoded 6 (row f c) (row_lawful f c).windows k h
+pub past_end : (f : Family) (c : Choice) (k : ℕ) → 6 ≤ k → at (row f c) k ≡ None
+past_end f c k h = let short = row_short f c in past (row f c) k (omega (arith, h))
+
+-- ---- what is handed out of a row is lawful
+
+pub handed_out_lawful : (f : Family) (c : Choice) (handed : ℕ → Option Place) → ((k : ℕ) → handed k ≡ decoded (code_at f c k)) → RowLawful handed
+handed_out_lawful f c handed is = subst RowLawful (λ i k. sym (is k) i) (row_lawful f c)
+
+pub place_lawful : (f : Family) (c : Choice) (k : ℕ) (o : Option Place) → o ≡ at (row f c) k → PlaceLawful (at (row f c)) k o
+place_lawful f c k o is = subst (PlaceLawful (at (row f c)) k) (sym is) (handed_out_lawful f c (at (row f c)) (λ j. sym (codes_tell f c j)) k)

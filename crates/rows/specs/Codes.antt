@@ -1,13 +1,13 @@
--- The rows as one table of codes: for each family four rows, for each row six places.
-use Rattle.std.specs.Prelude.{ℕ, zero, suc, ◌+◌, ◌-◌, ◌*◌, ◌/◌, ◌%◌, List, [], ◌∷◌, map, Some, None, Option, slice_index, slice_index_or}
-use Rattle.rows.specs.Families.{all_families, number}
-use Rattle.rows.specs.Rows.{row}
+-- The rows as they stand in the table of codes: for each family four rows, for each row six places.
+use Rattle.std.specs.Prelude.{ℕ, zero, suc, ◌-◌, ◌/◌, ◌%◌, List, [], ◌∷◌, Some, None, Option, slice_index, slice_index_or}
+use Rattle.rows.specs.Families.{number}
 use Rattle.rows.specs.declared.families.Family.{Family}
 use Rattle.rows.specs.declared.places.Choice.{Choice}
 use Rattle.rows.specs.declared.places.Choice.TheVariants.{Close, LastDay, QuarterEnd, Morning}
 use Rattle.rows.specs.declared.places.Place.{Place}
 use Rattle.rows.specs.declared.steps.Step.{Step}
 use Rattle.rows.specs.declared.steps.Step.TheVariants.{Auction, Trade, Quote, Average, Theory, TheoryUp, Spread, PreviousSpread, Copy, Previous, Ruling}
+use Rattle.rows.specs.declared.tables.TheConstants.{TABLE}
 
 -- the place at a position of a row, if it has one there
 abbrev pub at : List Place → ℕ → Option Place
@@ -15,49 +15,18 @@ at [] k = None
 at (p ∷ ps) zero = Some p
 at (p ∷ ps) (suc k) = at ps k
 
--- the step of each number, from 0 on
-abbrev pub steps : List (Option Step)
-steps =
-    None ∷ Some Auction ∷ Some Trade ∷ Some Quote ∷ Some Average ∷ Some Theory ∷ Some TheoryUp ∷ Some Spread ∷ Some PreviousSpread
-    ∷ Some Copy ∷ Some Previous ∷ Some Ruling ∷ []
-
-abbrev pub step_number : Step → ℕ
-step_number Auction = 1
-step_number Trade = 2
-step_number Quote = 3
-step_number Average = 4
-step_number Theory = 5
-step_number TheoryUp = 6
-step_number Spread = 7
-step_number PreviousSpread = 8
-step_number Copy = 9
-step_number Previous = 10
-step_number Ruling = 11
-
--- ---- a code is sixteen times the number of the step, and the window, if there is one; 0 is an empty place
-
 -- the number of a window; 0, which no window has, where there is none
 abbrev pub window_number : Option ℕ → ℕ
 window_number None = 0
 window_number (Some w) = w
 
-abbrev pub code : Place → ℕ
-code p = step_number p.step * 16 + window_number p.window
+-- ---- a code is sixteen times the number of the step, and the window, if there is one; 0 is an empty place
 
--- the codes of a row of n places
-abbrev pub padded : ℕ → List Place → List ℕ
-padded zero ps = []
-padded (suc n) [] = 0 ∷ padded n []
-padded (suc n) (p ∷ ps) = code p ∷ padded n ps
-
-abbrev pub choices : List Choice
-choices = Close ∷ LastDay ∷ QuarterEnd ∷ Morning ∷ []
-
--- the whole table: from family 1 on, four rows a family, six places a row
-abbrev pub table : List (List (List ℕ))
-table = map (λ f. map (λ c. padded 6 (row f c)) choices) all_families
-
--- ---- and back
+-- the step of each number, from 0 on
+abbrev pub steps : List (Option Step)
+steps =
+    None ∷ Some Auction ∷ Some Trade ∷ Some Quote ∷ Some Average ∷ Some Theory ∷ Some TheoryUp ∷ Some Spread ∷ Some PreviousSpread
+    ∷ Some Copy ∷ Some Previous ∷ Some Ruling ∷ []
 
 abbrev pub window_of : ℕ → Option ℕ
 window_of zero = None
@@ -70,7 +39,7 @@ with_window (Some s) w = Some (record { step = s; window = window_of w })
 abbrev pub decoded : ℕ → Option Place
 decoded c = with_window (slice_index_or steps (c / 16) None) (c % 16)
 
--- ---- where a place stands in the table
+-- ---- where a row stands in the table
 
 abbrev pub choice_number : Choice → ℕ
 choice_number Close = 0
@@ -78,5 +47,9 @@ choice_number LastDay = 1
 choice_number QuarterEnd = 2
 choice_number Morning = 3
 
+abbrev pub codes_of : Family → Choice → List ℕ
+codes_of f c = slice_index_or (slice_index_or TABLE (number f - 1) []) (choice_number c) []
+
+-- past a row's end there is no code but 0
 abbrev pub code_at : Family → Choice → ℕ → ℕ
-code_at f c k = slice_index (slice_index_or (slice_index_or table (number f - 1) []) (choice_number c) []) k
+code_at f c k = slice_index (codes_of f c) k

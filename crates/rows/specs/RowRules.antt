@@ -1,6 +1,5 @@
--- What holds of every row.
-use Rattle.std.specs.Prelude.{◌≡◌, ℕ, ◌≤◌, Bool, true, false, List, length, Some, None, Option}
-use Rattle.rows.specs.Codes.{at}
+-- What holds of every row, of what stands at each of its positions.
+use Rattle.std.specs.Prelude.{◌≡◌, ℕ, ◌≤◌, Bool, true, false, Some, None, Option}
 use Rattle.rows.specs.declared.places.Place.{Place}
 use Rattle.rows.specs.declared.steps.Step.{Step}
 use Rattle.rows.specs.declared.steps.Step.TheVariants.{Auction, Trade, Quote, Average, Theory, TheoryUp, Spread, PreviousSpread, Copy, Previous, Ruling}
@@ -26,11 +25,13 @@ Fitting true (Some w) = (1 ≤ w) × (w ≤ 13)
 Fitting false None = Unit {0}
 Fitting false (Some w) = ⊥
 
-pub record RowLawful (ps : List Place) : Type 0 where
-  -- at most six places
-  pub short : length ps ≤ 6
-  -- nothing follows the first empty place
-  pub gapless : (j k : ℕ) → j ≤ k → at ps j ≡ None → at ps k ≡ None
-  -- no step stands twice with the same window
-  pub once : (j k : ℕ) (p : Place) → at ps j ≡ Some p → at ps k ≡ Some p → j ≡ k
-  pub windows : (k : ℕ) (p : Place) → at ps k ≡ Some p → Fitting (looks p.step) p.window
+-- what stands at position k of a row
+pub record PlaceLawful (row : ℕ → Option Place) (k : ℕ) (o : Option Place) : Type 0 where
+  -- nothing follows an empty place
+  pub gapless : o ≡ None → (j : ℕ) → k ≤ j → row j ≡ None
+  -- no other position has the same step with the same window
+  pub once : (p : Place) → o ≡ Some p → (j : ℕ) → row j ≡ Some p → j ≡ k
+  pub window : (p : Place) → o ≡ Some p → Fitting (looks p.step) p.window
+
+abbrev pub RowLawful : (ℕ → Option Place) → Type 0
+RowLawful row = (k : ℕ) → PlaceLawful row k (row k)

@@ -1,44 +1,50 @@
 // Which row serves a series.
 ghost use Rattle.std.specs.Prelude.{◌≡◌};
-ghost use Rattle.rows.specs.Chosen.{chosen, minds_last_day, minds_quarter_end};
+ghost use Rattle.rows.specs.Chosen.{ElsewhereAside, chosen, minds_last_day, minds_quarter_end, unmarked};
 
 use crate::families::Family;
 use crate::places::{Choice, Edition, Marks};
 
-// Whether the family closes in a way of its own on its last day.
-fn minds_last_day(family: Family) -> bool
-    ensures { result ≡ minds_last_day family }
+// Whether the family has a row of its own in the edition on its last day.
+fn minds_last_day(family: Family, edition: Edition) -> bool
+    ensures { result ≡ minds_last_day family edition }
 {
-    matches!(family, Family::DeliveredCommodity | Family::DeliveredGrain)
+    match edition {
+        Edition::Close => matches!(family, Family::DeliveredCommodity | Family::DeliveredGrain),
+        Edition::Morning => false,
+    }
 }
 
-// Whether the family closes in a way of its own at the end of a quarter.
-fn minds_quarter_end(family: Family) -> bool
-    ensures { result ≡ minds_quarter_end family }
+// Whether the family has a row of its own in the edition at the end of a quarter.
+fn minds_quarter_end(family: Family, edition: Edition) -> bool
+    ensures { result ≡ minds_quarter_end family edition }
 {
-    matches!(family, Family::FrontIndex | Family::NearOption)
+    match edition {
+        Edition::Close => matches!(family, Family::FrontIndex | Family::NearOption),
+        Edition::Morning => matches!(family, Family::NearOption),
+    }
+}
+
+// The row of an edition without regard to marks.
+fn unmarked(edition: Edition) -> Choice
+    ensures { result ≡ unmarked edition }
+{
+    match edition {
+        Edition::Close => Choice::Close,
+        Edition::Morning => Choice::Morning,
+    }
 }
 
 /// Which of the family's four rows settles a series with these marks in the edition.
 pub fn choose(family: Family, marks: Marks, edition: Edition) -> Choice
-    ensures { result ≡ chosen family marks edition }
+    ensures value { result ≡ chosen family marks edition }
+    ensures elsewhere { ElsewhereAside family marks edition result }
 {
-    match edition {
-        Edition::Close => {
-            if marks.last_day && minds_last_day(family) {
-                Choice::LastDay
-            } else if marks.quarter_end && minds_quarter_end(family) {
-                Choice::QuarterEnd
-            } else {
-                Choice::Close
-            }
-        }
-        Edition::Morning => {
-            if marks.quarter_end && family == Family::NearOption {
-                Choice::QuarterEnd
-            } else {
-                Choice::Morning
-            }
-        }
+    if marks.last_day && minds_last_day(family, edition) {
+        Choice::LastDay
+    } else if marks.quarter_end && minds_quarter_end(family, edition) {
+        Choice::QuarterEnd
+    } else {
+        unmarked(edition)
     }
 }

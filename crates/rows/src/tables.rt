@@ -1,8 +1,8 @@
 // The rows of all families as one table of codes: four rows a family (close, last-day close, quarter-end close, morning),
 // six places a row.
-ghost use Rattle.std.specs.Prelude.{◌≡◌, ℕ, ◌≤◌, None, slice_index, slice_index_or};
+ghost use Rattle.std.specs.Prelude.{◌≡◌, ℕ, None, slice_index, slice_index_or};
 ghost use Rattle.rows.specs.Codes.{at, code_at, decoded, steps, window_of};
-ghost use Rattle.rows.specs.RowRules.{RowLawful};
+ghost use Rattle.rows.specs.RowRules.{PlaceLawful, RowLawful};
 ghost use Rattle.rows.specs.Rows.{row};
 
 use crate::families::Family;
@@ -180,8 +180,7 @@ fn decode(code: u8) -> Option<Place>
 // An array, since nothing here allocates.
 pub fn places(family: Family, choice: Choice) -> [Option<Place>; PLACES]
     ensures value { (k : ℕ) → slice_index_or result k None ≡ at (row family choice) k }
-    ensures gapless { (j k : ℕ) → j ≤ k → slice_index_or result j None ≡ None → slice_index_or result k None ≡ None }
-    ensures lawful { RowLawful (row family choice) }
+    ensures lawful { RowLawful (λ k. slice_index_or result k None) }
 {
     codes(family, choice).map(decode)
 }
@@ -189,7 +188,7 @@ pub fn places(family: Family, choice: Choice) -> [Option<Place>; PLACES]
 /// The place of a row at a position from 0 on; nothing past its end.
 pub fn place_at(family: Family, choice: Choice, position: usize) -> Option<Place>
     ensures value { result ≡ at (row family choice) position }
-    ensures lawful { RowLawful (row family choice) }
+    ensures lawful { PlaceLawful (at (row family choice)) position result }
 {
     let code = *codes(family, choice).get(position)?;
     decode(code)

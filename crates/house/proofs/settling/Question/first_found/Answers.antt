@@ -1,6 +1,6 @@
 use Rattle.std.proofs.Common.{◌≡◌, ◌+◌, Some, sym, ap, ◌∙◌, arith, rules, w64, SFits}
 use Rattle.std.proofs.lemmas.Int.{to_z-of_z}
-use Rattle.rows.proofs.RowTest.{row_lawful}
+use Rattle.rows.proofs.Table.{row_short}
 use Rattle.rows.specs.Chosen.{chosen}
 use Rattle.house.proofs.RowWalk.{found_here, found_later, found_not, found_nowhere}
 use Rattle.house.proofs.settling.Question.first_found.Goals as goal
@@ -26,7 +26,6 @@ loop-position-preserved g c =
 pub returns-clause-value : goal.returns-clause-value
 returns-clause-value g c =
     let s = c.args.self.now.series in
-    let lawful = row_lawful s.terms.family (chosen s.terms.family s.terms.marks c.args.self.now.edition) in
-    let short = lawful.short in
+    let short = row_short s.terms.family (chosen s.terms.family s.terms.marks c.args.self.now.edition) in
     let end = c.loop-position-test.false in
     sym (found_not _ _ c.loop-position.position _ c.loop-position.invariant (omega arith))
