@@ -5,7 +5,7 @@ ghost use Rattle.std.specs.Prelude.{◌≡◌, ◌≤◌, IfErr, IfOk};
 ghost use Rattle.book.specs.Ledgers.{Ledger};
 ghost use Rattle.lines.specs.Spelled.{OneReading};
 ghost use Rattle.desk.specs.Desks.{call_after, call_answer, desk_state, waiting};
-ghost use Rattle.desk.specs.Responses.{LineAnswered, Responded};
+ghost use Rattle.desk.specs.Responses.{LineAnswered, RefusedStays, Responded};
 
 use answers::faults::LineFault;
 use answers::writing::{ROOM, write_answer};
@@ -100,6 +100,8 @@ impl Desk {
     ) -> Result<usize, LineFault>
         ensures responded { let before = desk_state self.old (B.meaning book.old) in
             Responded line.now before out.old result out.new (desk_state self.new (B.meaning book.new)) }
+        ensures refused { let before = desk_state self.old (B.meaning book.old) in
+            RefusedStays before result out.new (desk_state self.new (B.meaning book.new)) }
         ensures short { IfOk result (λ n. n ≤ 96) }
         ensures reading { OneReading }
     {
