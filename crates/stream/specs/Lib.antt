@@ -3,3 +3,4 @@ pub mod Transcripts
 pub mod Held
 pub mod Sessions
 pub mod Served
+pub mod LineByLine

@@ -14,7 +14,8 @@ use book::books::Reusable;
 use std::io;
 use std::io::{ErrorKind, Read, Write};
 
-const PIECE: usize = 8192;
+/// How many bytes of the input are read at once.
+pub const PIECE: usize = 8192;
 
 // The next piece of the input; nothing at its end. A read that a signal interrupts is tried again.
 fn next_piece<R: Read>(input: &mut R, piece: &mut [u8; PIECE]) -> io::Result<usize>
