@@ -7,6 +7,7 @@ ghost use Rattle.stream.specs.Inputs.{AllSplit, SplitLines};
 ghost use Rattle.stream.specs.LineByLine.{LineByLine};
 ghost use Rattle.stream.specs.Transcripts.{OneTranscript};
 
+use crate::memory::HELD;
 use board::boards::Board;
 use book::books::MOST;
 use book::lawful::LawfulDay;
@@ -24,6 +25,8 @@ pub fn serve_day<R: Read, W: Write>(input: &mut R, output: &mut W) -> io::Result
     ensures lines { SplitLines }
     ensures split { AllSplit }
 {
+    // All that is held fits 64 KiB.
+    prove!(HELD <= 65_536);
     // Until a day line comes the board has a day that nothing asks for.
     let mut board = Board::new(LawfulDay::least(), MOST);
     serve(&mut board, input, output)
