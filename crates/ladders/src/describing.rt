@@ -21,13 +21,13 @@ pub trait Describes<L: Ladder> {
     // What is wrong with the description, if anything.
     ghost fault: { Self → Option Fault };
 
-    // That nothing is, in the words of the rules.
+    // That it is lawful, in the words of the rules.
     ghost keeps_rules: { Self → Type 0 };
 
     // The lawful prices that are described.
     ghost prices: { Self → ℤ → Bool };
 
-    // That these are the lawful prices that are described, in the words of the rules.
+    // That these are the lawful prices described, in the words of the rules.
     ghost lawful_prices: { Self → (ℤ → Bool) → Type 0 };
 
     /// The ladder with these lawful prices; the error is the first fault of the description.
@@ -37,7 +37,7 @@ pub trait Describes<L: Ladder> {
     // Nothing is wrong exactly if the rules are kept.
     ghost decided: { (d : Self) → Decides (is_none (fault d)) (keeps_rules d) };
 
-    // The prices described are lawful as the rules say.
+    // Where the rules are kept, the prices that are described are those of which the rules speak.
     ghost told: { (d : Self) → keeps_rules d → lawful_prices d (prices d) };
 }
 
