@@ -10,7 +10,6 @@ pub mod Rounding
 pub mod Values
 pub mod Rounded
 pub mod Laws
-pub mod Worked
 pub mod InSet
 pub mod ToTick
 pub mod Products
