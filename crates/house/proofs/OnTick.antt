@@ -1,11 +1,12 @@
--- Steps that round, worked out on a tick.
-use Rattle.std.proofs.Common.{◌≡◌, ℕ, ◌<◌, ◌≤◌, true, ℤ, pos, ◌+ℤ◌, ◌-ℤ◌, neg_ℤ, Some, None, sym, ap, ◌∙◌}
+-- Roundings, and steps that round, worked out on a tick.
+use Rattle.std.proofs.Common.{◌≡◌, ℕ, ◌<◌, ◌≤◌, true, ℤ, pos, ◌+ℤ◌, ◌-ℤ◌, neg_ℤ, Some, None, sym, ap, ◌∙◌, subst}
 use Rattle.std.specs.Int.{int_rem_euclid}
 use Rattle.std.proofs.lemmas.Bool.{cond-true}
 use Rattle.ladders.specs.Fractions.{ceiling, floor, inside}
 use Rattle.ladders.specs.Multiples.{multiple}
+use Rattle.ladders.specs.Rounding.{Above, Nearest}
 use Rattle.ladders.specs.Values.{above_of, below_of, closer_of, nearest_of, nearest_price}
-use Rattle.ladders.proofs.Nearest.{above_value, below_value}
+use Rattle.ladders.proofs.Nearest.{above_value, below_value, closer_is_nearest}
 use Rattle.ladders.specs.ToTick.{down_is_below, tick_is_near, up_is_above}
 
 -- the multiples next to a whole number
@@ -31,3 +32,13 @@ nearest_on t n d p some few e is =
 
 pub above_step : (t : ℕ) (v p : ℤ) → 0 < t → t ≤ 1000000 → up_to t v ≡ p → Some (above_of (multiple t) v) ≡ Some p
 above_step t v p some few is = ap Some (above_on t v some few ∙ is)
+
+-- ---- the relations
+
+pub nearest_by : (t : ℕ) (n : ℤ) (d : ℕ) (p : ℤ) → 0 < t → 0 < d → closer_of n d (down_to t (floor n d)) (up_to t (ceiling n d)) ≡ p → Nearest (multiple t) n d p
+nearest_by t n d p some some_d is =
+    subst (Nearest (multiple t) n d) is
+    (closer_is_nearest (multiple t) n d (down_to t (floor n d)) (up_to t (ceiling n d)) some_d (down_is_below t (floor n d) some) (up_is_above t (ceiling n d) some))
+
+pub above_by : (t : ℕ) (v p : ℤ) → 0 < t → up_to t v ≡ p → Above (multiple t) v p
+above_by t v p some is = subst (Above (multiple t) v) is (up_is_above t v some)

@@ -1,40 +1,102 @@
--- The worked prices: what a step finds, and the refusal of a chain without evidence.
-use Rattle.std.specs.Prelude.{◌≡◌, ℕ, [], ◌∷◌, pos, Some, None, Option}
+-- The worked prices: roundings, what a step finds, and what is answered, as one list; and what each of them says.
+use Rattle.std.specs.Prelude.{◌≡◌, ℕ, zero, suc, List, [], ◌∷◌, length, ℤ, pos, neg_ℤ, ◌+ℤ◌, Some, None, Ok, Err, Option, Result}
 use Rattle.book.specs.Figures.{empty, values}
+use Rattle.book.specs.declared.figures.Sides.{Sides}
 use Rattle.book.specs.declared.figures.Values.{Values}
+use Rattle.ladders.specs.Fractions.{ceiling}
 use Rattle.ladders.specs.Multiples.{multiple}
+use Rattle.ladders.specs.Rounding.{Above, Nearest}
 use Rattle.rows.specs.declared.families.Family.{Family}
 use Rattle.rows.specs.declared.families.Family.TheVariants.{LongBond, FollowingBond, CopiedIndex}
 use Rattle.rows.specs.declared.places.Edition.TheVariants.{Close}
+use Rattle.rows.specs.declared.steps.Step.{Step}
+use Rattle.rows.specs.declared.steps.Step.TheVariants as steps
 use Rattle.house.specs.Answers.{Answer, path_answer}
+use Rattle.house.specs.Faults.{house_number}
 use Rattle.house.specs.Found.{Station, finds}
+use Rattle.house.specs.Questions.{or_no_price}
 use Rattle.house.specs.Series.{bare_terms, blank, new_series}
+use Rattle.house.specs.declared.answers.Settlement.{Settlement}
+use Rattle.house.specs.declared.faults.HouseFault.TheVariants.{NoPrice}
 use Rattle.house.specs.declared.series.Series.{Series}
+use Rattle.house.specs.declared.worked.Matter.{Matter}
+use Rattle.house.specs.declared.worked.Matter.TheVariants as matters
+use Rattle.house.specs.declared.worked.Refusal.{Refusal}
+use Rattle.house.specs.declared.worked.Way.{Way}
+use Rattle.house.specs.declared.worked.Way.TheVariants as ways
 use Rattle.house.specs.declared.worked.WorkedPrice.{WorkedPrice}
+use Rattle.house.specs.declared.worked.WorkedPrice.TheVariants as cases
 
--- a series of which nothing is known but the theory value, and figures with nothing but a spread and a quote
-abbrev pub with_theory_only : WorkedPrice → Series
-with_theory_only w = record { terms = blank.terms; theory = w.theory; ruling = None }
+-- ---- what they say
 
-abbrev pub with_figures_only : WorkedPrice → Values
-with_figures_only w = record {
+-- p is the fraction n / d rounded to the multiples of a tick
+abbrev pub RoundsTo : Way → ℕ → ℤ → ℕ → ℤ → Type 0
+RoundsTo ways.Nearest tick n d p = Nearest (multiple tick) n d p
+RoundsTo ways.Above tick n d p = Above (multiple tick) (ceiling n d) p
+
+-- a series of which nothing is known but the theory value, and figures with nothing but a spread or a quote
+abbrev pub with_theory_only : ℤ → Series
+with_theory_only v = record { terms = blank.terms; theory = Some v; ruling = None }
+
+abbrev pub with_figures_only : Option ℤ → Option Sides → Values
+with_figures_only spread quote = record {
   trade = None;
   auction = None;
-  spread = w.spread;
-  quote = Some (record { bid = w.bid; ask = w.ask });
+  spread = spread;
+  quote = quote;
   lots = pos 0;
   money = pos 0;
 }
 
+-- what a step finds on the multiples of a tick where nothing is known but its matter
+abbrev pub found_by : ℕ → Step → Matter → Option ℤ
+found_by tick step (matters.Theory v) = finds (multiple tick) None (with_theory_only v) (with_figures_only None None) step
+found_by tick step (matters.Quote bid ask) =
+    finds (multiple tick) None blank (with_figures_only None (Some (record { bid = Some bid; ask = Some ask }))) step
+found_by tick step (matters.Spread reference spread) =
+    finds (multiple tick) (Some reference) blank (with_figures_only (Some spread) None) step
+
+-- the series listed before; number 0 is the first
+abbrev pub number_before : ℕ → Option ℕ
+number_before zero = None
+number_before (suc n) = Some n
+
+-- a series of a family that refers to the one before, if there is one, with nothing entered or supplied
+abbrev pub bare : Family → ℕ → Station
+bare f n = record { number = n; series = new_series (bare_terms f (number_before n)); figures = λ w. values empty }
+
+-- such series of these families, each of which refers to the next
+abbrev pub bare_path : List Family → List Station
+bare_path [] = []
+bare_path (f ∷ fs) = bare f (length fs) ∷ bare_path fs
+
+-- what is answered along the path is that settlement, or is refused with that number and origin
+abbrev pub AnswerIs : Answer → Result Settlement Refusal → Type 0
+AnswerIs answer (Ok s) = (answer ≡ Ok s) × (or_no_price answer ≡ Ok s)
+AnswerIs answer (Err r) = (answer ≡ Err r.origin) × (or_no_price answer ≡ Err (NoPrice r.origin)) × (house_number (NoPrice r.origin) ≡ r.number)
+
 abbrev pub Holds : WorkedPrice → Type 0
-Holds w = finds (multiple w.tick) w.reference (with_theory_only w) (with_figures_only w) w.step ≡ Some w.price
+Holds (cases.Rounding tick way fraction price) = RoundsTo way tick fraction.0 fraction.1 price
+Holds (cases.Finding tick step matter price) = found_by tick step matter ≡ Some price
+Holds (cases.Answer tick edition family references answer) =
+    AnswerIs (path_answer (λ l. multiple tick) edition (bare family (length references)) (bare_path references)) answer
 
--- a series of a family with a reference, and nothing else
-abbrev pub bare : ℕ → Family → Option ℕ → Station
-bare n f reference = record { number = n; series = new_series (bare_terms f reference); figures = λ w. values empty }
+-- ---- the list
 
--- family 8 on family 2 on family 1, at the close, on ticks of 10
-abbrev pub bare_chain : Answer
-bare_chain =
-    path_answer (λ l. multiple 10) Close (bare 2 CopiedIndex (Some 1))
-    (bare 1 FollowingBond (Some 0) ∷ bare 0 LongBond None ∷ [])
+abbrev pub worked_prices : List WorkedPrice
+worked_prices =
+    cases.Rounding 10000 ways.Nearest (pos 38514999, 1) (pos 38510000)
+    ∷ cases.Rounding 10 ways.Nearest (neg_ℤ (pos 15), 1) (neg_ℤ (pos 10))
+    ∷ cases.Rounding 10 ways.Nearest (neg_ℤ (pos 16), 1) (neg_ℤ (pos 20))
+    ∷ cases.Rounding 10 ways.Above (pos 101, 1) (pos 110)
+    ∷ cases.Rounding 10 ways.Above (neg_ℤ (pos 101), 1) (neg_ℤ (pos 100))
+    ∷ cases.Rounding 10 ways.Nearest (pos 100 +ℤ pos 130, 2) (pos 120)
+    ∷ cases.Finding 10000 steps.Theory (matters.Theory (pos 38514999)) (pos 38510000)
+    ∷ cases.Finding 10 steps.Theory (matters.Theory (neg_ℤ (pos 15))) (neg_ℤ (pos 10))
+    ∷ cases.Finding 10 steps.Theory (matters.Theory (neg_ℤ (pos 16))) (neg_ℤ (pos 20))
+    ∷ cases.Finding 10 steps.TheoryUp (matters.Theory (pos 101)) (pos 110)
+    ∷ cases.Finding 10 steps.TheoryUp (matters.Theory (neg_ℤ (pos 101))) (neg_ℤ (pos 100))
+    ∷ cases.Finding 10 steps.Quote (matters.Quote (pos 100) (pos 130)) (pos 120)
+    ∷ cases.Finding 10 steps.Spread (matters.Spread (pos 145200) (neg_ℤ (pos 30))) (pos 145230)
+    ∷ cases.Answer 10 Close CopiedIndex (FollowingBond ∷ LongBond ∷ []) (Err (record { number = 10; origin = 0 }))
+    ∷ []

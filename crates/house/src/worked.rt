@@ -1,86 +1,144 @@
-// The worked prices, as one list: each is proved of what the steps and answers mean, and the program `house_trials` tries them.
-ghost use Rattle.std.specs.Prelude.{◌≡◌, Some, None, Err};
+// The worked prices, as one list: each is proved of what rounding, the steps and the answers mean. The tests of `trials` run the code on
+// the roundings, and the program `house_trials` on the rest.
+ghost use Rattle.std.specs.Prelude.{◌≡◌};
 ghost use Rattle.std.specs.List.{AllByRecursion};
-ghost use Rattle.house.specs.Faults.{house_number};
-ghost use Rattle.house.specs.Questions.{or_no_price};
-ghost use Rattle.house.specs.Worked.{Holds, bare_chain};
-ghost use Rattle.house.specs.declared.faults.HouseFault.TheVariants.{NoPrice};
+ghost use Rattle.house.specs.Worked.{Holds, worked_prices};
+ghost use Rattle.house.specs.declared.worked.WorkedPrice.TheVariants.{Rounding, Finding};
 
+use crate::answers::Settlement;
+use rows::families::Family;
+use rows::places::Edition;
 use rows::steps::Step;
 
-/// What a step finds on a tick. The matter that a step does not look at is missing.
+/// A way of rounding.
 #[derive(Clone, Copy)]
-pub struct WorkedPrice {
-    /// Of the ladder, in points.
-    pub tick: u32,
-    /// The step that looks.
-    pub step: Step,
-    /// The reference's price, in points; so are all the others.
-    pub reference: Option<i64>,
-    /// The theory value.
-    pub theory: Option<i64>,
-    /// The last spread.
-    pub spread: Option<i64>,
-    /// The best bid of the last quote.
-    pub bid: Option<i64>,
-    /// Its best ask.
-    pub ask: Option<i64>,
-    /// What the step finds.
-    pub price: i64,
+pub enum Way {
+    /// To the closest lawful price.
+    Nearest,
+    /// To the least lawful price not under.
+    Above,
 }
 
-// Tick 10, with all matter missing.
-const NOTHING: WorkedPrice = WorkedPrice {
-    tick: 10,
-    step: Step::Theory,
-    reference: None,
-    theory: None,
-    spread: None,
-    bid: None,
-    ask: None,
-    price: 0,
-};
+/// From what a step finds its price, in points.
+#[derive(Clone, Copy)]
+pub enum Matter {
+    /// A theory value.
+    Theory(i64),
+    /// The best bid and the best ask of the last quote.
+    Quote(i64, i64),
+    /// The reference's price and the last spread.
+    Spread(i64, i64),
+}
 
-// The price that a theory value gives.
-fn by_theory(tick: u32, step: Step, theory: i64, price: i64) -> WorkedPrice
-    ensures { result ≡ record { tick = tick; step = step; reference = None; theory = Some theory; spread = None; bid = None; ask = None; price = price } }
+/// A refusal for want of a price.
+#[derive(Clone, Copy)]
+pub struct Refusal {
+    /// By which it is known.
+    pub number: u8,
+    /// The series for which a price is wanting.
+    pub origin: u8,
+}
+
+/// A worked price. Prices are in points, and so are ticks.
+#[derive(Clone, Copy)]
+pub enum WorkedPrice {
+    /// A fraction rounded to the multiples of a tick.
+    Rounding {
+        /// Of the ladder.
+        tick: u32,
+        /// How it is rounded.
+        way: Way,
+        /// Numerator and denominator.
+        fraction: (i64, u32),
+        /// What it is rounded to.
+        price: i64,
+    },
+    /// What a step finds on the multiples of a tick, where nothing is known but its matter.
+    Finding {
+        /// Of the ladder.
+        tick: u32,
+        /// The step that looks.
+        step: Step,
+        /// All that is known.
+        matter: Matter,
+        /// What the step finds.
+        price: i64,
+    },
+    /// The answer to a question, where nothing is entered or supplied.
+    Answer {
+        /// Of every ladder.
+        tick: u32,
+        /// The edition asked for.
+        edition: Edition,
+        /// Of the series asked for.
+        family: Family,
+        /// Of its reference, and of that one's reference, which has none. The last is listed first, as number 0.
+        references: [Family; 2],
+        /// The settlement, or the refusal.
+        answer: Result<Settlement, Refusal>,
+    },
+}
+
+// A fraction rounded.
+fn rounding(tick: u32, way: Way, fraction: (i64, u32), price: i64) -> WorkedPrice
+    ensures { result ≡ Rounding tick way fraction price }
 {
-    WorkedPrice {
+    WorkedPrice::Rounding {
         tick,
-        step,
-        theory: Some(theory),
+        way,
+        fraction,
         price,
-        ..NOTHING
     }
 }
 
-/// The worked prices. Beside the prices stands the origin of the refusal of family 8 on family 2 on family 1, numbered from 0 in the order of
-/// listing, at the close and all without evidence: the family 1 series.
-pub fn worked_prices() -> ([WorkedPrice; 7], u8)
-    ensures prices { AllByRecursion Holds result.0 }
-    ensures refused { bare_chain ≡ Err result.1 }
-    ensures number { (or_no_price bare_chain ≡ Err (NoPrice result.1)) × (house_number (NoPrice result.1) ≡ 10) }
+// What a step finds.
+fn finding(tick: u32, step: Step, matter: Matter, price: i64) -> WorkedPrice
+    ensures { result ≡ Finding tick step matter price }
 {
-    let prices = [
-        by_theory(10_000, Step::Theory, 38_514_999, 38_510_000),
-        by_theory(10, Step::Theory, -15, -10),
-        by_theory(10, Step::Theory, -16, -20),
-        by_theory(10, Step::TheoryUp, 101, 110),
-        by_theory(10, Step::TheoryUp, -101, -100),
-        WorkedPrice {
-            step: Step::Quote,
-            bid: Some(100),
-            ask: Some(130),
-            price: 120,
-            ..NOTHING
+    WorkedPrice::Finding {
+        tick,
+        step,
+        matter,
+        price,
+    }
+}
+
+// The list. Apart from `worked_prices`, so that a wrong member fails here, and not in the proof that each holds.
+fn members() -> [WorkedPrice; 14]
+    ensures { result ≡ worked_prices }
+{
+    [
+        rounding(10_000, Way::Nearest, (38_514_999, 1), 38_510_000),
+        rounding(10, Way::Nearest, (-15, 1), -10),
+        rounding(10, Way::Nearest, (-16, 1), -20),
+        rounding(10, Way::Above, (101, 1), 110),
+        rounding(10, Way::Above, (-101, 1), -100),
+        rounding(10, Way::Nearest, (100 + 130, 2), 120),
+        finding(10_000, Step::Theory, Matter::Theory(38_514_999), 38_510_000),
+        finding(10, Step::Theory, Matter::Theory(-15), -10),
+        finding(10, Step::Theory, Matter::Theory(-16), -20),
+        finding(10, Step::TheoryUp, Matter::Theory(101), 110),
+        finding(10, Step::TheoryUp, Matter::Theory(-101), -100),
+        finding(10, Step::Quote, Matter::Quote(100, 130), 120),
+        finding(10, Step::Spread, Matter::Spread(145_200, -30), 145_230),
+        WorkedPrice::Answer {
+            tick: 10,
+            edition: Edition::Close,
+            family: Family::CopiedIndex,
+            references: [Family::FollowingBond, Family::LongBond],
+            answer: Err(Refusal {
+                number: 10,
+                origin: 0,
+            }),
         },
-        WorkedPrice {
-            step: Step::Spread,
-            reference: Some(145_200),
-            spread: Some(-30),
-            price: 145_230,
-            ..NOTHING
-        },
-    ];
-    (prices, 0)
+    ]
+}
+
+/// The worked prices: roundings, what steps find, and the refusal of family 8 on family 2 on family 1 at the close, all without evidence,
+/// whose origin is the series of family 1.
+pub fn worked_prices() -> [WorkedPrice; 14]
+    ensures list { result ≡ worked_prices }
+    ensures hold { AllByRecursion Holds result }
+{
+    members()
 }

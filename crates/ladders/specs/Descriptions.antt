@@ -1,12 +1,12 @@
 -- A description has no fault exactly if it is lawful.
-use Rattle.std.specs.Prelude.{◌≡◌, Bool, true, false, cond, ◌&&◌, List, [], ◌∷◌, length, ℤ, pos, ◌≤ℤ◌, Some, None, Decides, Option, int_le, nat_le, unsigned_abs, refl}
+use Rattle.std.specs.Prelude.{◌≡◌, Bool, true, false, cond, ◌&&◌, List, [], ◌∷◌, length, ℤ, pos, ◌≤ℤ◌, Some, None, Ok, Err, Decides, Option, Result, is_none, is_ok, int_le, nat_le, unsigned_abs, refl}
 use Rattle.std.proofs.Common.{sym, ap, ◌∙◌, arith}
 use Rattle.std.specs.List.{AllByRecursion}
 use Rattle.std.proofs.lemmas.Int.{ints}
 use Rattle.std.proofs.lemmas.Option.{none-some}
 use Rattle.std.proofs.lemmas.Bool.{and_parts, and_from, cond-true, leb-true, le-leb, true≢false}
 use Rattle.ladders.specs.Bands.{rises, start_fault, band_fault, first_fault, later_fault, ladder_fault, no_start}
-use Rattle.ladders.specs.Faults.{or_else, tick_fault}
+use Rattle.ladders.specs.Faults.{TakenUnless, or_else, tick_fault}
 use Rattle.ladders.specs.Lawful.{LawfulTick, Over, Starts, Follows, Chain, LawfulBands}
 use Rattle.ladders.specs.Multiples.{multiple}
 use Rattle.ladders.specs.Prices.{within}
@@ -21,7 +21,7 @@ pub none_of_both : (f g : Option LadderFault) → or_else f g ≡ None → (f �
 none_of_both None g e = (refl, e)
 none_of_both (Some f) g e = absurd (none-some f (sym e))
 
-both_none : (f g : Option LadderFault) → f ≡ None → g ≡ None → or_else f g ≡ None
+pub both_none : (f g : Option LadderFault) → f ≡ None → g ≡ None → or_else f g ≡ None
 both_none f g a b = ap (λ o. or_else o g) a ∙ b
 
 pub none_where : (t : Bool) (g : Option LadderFault) (f : LadderFault) → cond t g (Some f) ≡ None → (t ≡ true) × (g ≡ None)
@@ -114,7 +114,7 @@ no_start_lawful (Some s) e = absurd (none-some _ (sym e))
 
 -- ---- a whole ladder
 
-pub bands_lawful : (bs : List Band) → ladder_fault bs ≡ None → LawfulBands bs
+bands_lawful : (bs : List Band) → ladder_fault bs ≡ None → LawfulBands bs
 bands_lawful [] e = absurd (none-some _ (sym e))
 bands_lawful (b ∷ bs) e =
     let few = none_where (nat_le (length bs) 3) (or_else (first_fault b) (later_fault b bs)) TooManyBands e in
@@ -129,7 +129,7 @@ bands_lawful (b ∷ bs) e =
       joined = (no_start_lawful b.start own.0, rest.1);
     }
 
-pub bands_sound : (bs : List Band) → LawfulBands bs → ladder_fault bs ≡ None
+bands_sound : (bs : List Band) → LawfulBands bs → ladder_fault bs ≡ None
 bands_sound [] h = let k = h.some in absurd (omega arith)
 bands_sound (b ∷ bs) h =
     let few = h.few in
@@ -138,6 +138,19 @@ bands_sound (b ∷ bs) h =
     (both_none (no_start b.start) (tick_fault b.tick) (ap no_start h.joined.0) (tick_sound b.tick h.ticks.0))
     (later_sound b bs h.ticks.1 h.joined.1))
 
--- bands with a fault are not lawful, so a constructor is right to refuse them
-pub refused_unlawful : (bs : List Band) (f : LadderFault) → ladder_fault bs ≡ Some f → Decides false (LawfulBands bs)
-refused_unlawful bs f e = (λ t. absurd (true≢false (sym t)), λ l. absurd (none-some f (sym (bands_sound bs l) ∙ e)))
+-- ---- decided by the fault
+
+pub decided_by : (f : Option LadderFault) (P : Type 0) → (f ≡ None → P) → (P → f ≡ None) → Decides (is_none f) P
+decided_by None P lawful sound = (λ _. lawful refl, λ _. refl)
+decided_by (Some f) P lawful sound = (λ t. absurd (true≢false (sym t)), λ l. absurd (none-some f (sym (sound l))))
+
+pub tick_decided : (k : ℤ) → Decides (is_none (tick_fault k)) (LawfulTick k)
+tick_decided k = decided_by (tick_fault k) (LawfulTick k) (tick_lawful k) (tick_sound k)
+
+pub bands_decided : (bs : List Band) → Decides (is_none (ladder_fault bs)) (LawfulBands bs)
+bands_decided bs = decided_by (ladder_fault bs) (LawfulBands bs) (bands_lawful bs) (bands_sound bs)
+
+-- what is taken exactly without a fault is taken exactly if it is lawful
+pub taken_decides : {A : Type 0} (f : Option LadderFault) (P : Type 0) (Q : A → Type 0) (r : Result A LadderFault) → Decides (is_none f) P → TakenUnless f Q r → Decides (is_ok r) P
+taken_decides f P Q (Ok a) d t = (λ _. d.0 (ap is_none t.0), λ _. refl)
+taken_decides f P Q (Err e) d t = (λ x. absurd (true≢false (sym x)), λ l. absurd (true≢false (sym (d.1 l) ∙ ap is_none t)))

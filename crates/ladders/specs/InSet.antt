@@ -1,13 +1,20 @@
 -- What is lawful on a ladder of a set.
-use Rattle.std.specs.Prelude.{◌≡◌, ℕ, zero, suc, ◌+◌, ◌<◌, ◌≤◌, Bool, true, cond, List, [], ◌∷◌, ◌++◌, length, take, drop, ℤ, Some, None, Option, MatchOption, option_copied, slice_get, slice_index_or, slice_set, refl}
+use Rattle.std.specs.Prelude.{◌≡◌, ℕ, zero, suc, ◌+◌, ◌<◌, ◌≤◌, Bool, true, cond, List, [], ◌∷◌, ◌++◌, length, take, drop, ℤ, Some, None, is_none, nat_le, Decides, Option, MatchOption, option_copied, slice_get, slice_index_or, slice_set, refl}
 use Rattle.std.specs.Borrow.{Bor}
-use Rattle.std.specs.Option.{option_map_or}
+use Rattle.std.specs.Option.{option_map_or, unwrap_or}
 use Rattle.std.proofs.Common.{sym, ap, ◌∙◌, subst, arith}
 use Rattle.std.proofs.lemmas.List.{at_drop_more, length-take, take_more, take_more_set}
 use Rattle.std.proofs.lemmas.Int.{ints}
+use Rattle.std.specs.List.{AllByRecursion}
+use Rattle.std.proofs.lemmas.Bool.{cond_both, leb-true}
+use Rattle.std.proofs.lemmas.Option.{none-some}
+use mathlib.Core.Path.{fun_ext}
+use Rattle.ladders.specs.Descriptions.{none_of_both, none_where}
 use Rattle.ladders.specs.Faults.{or_else, size_fault}
 use Rattle.ladders.specs.declared.faults.LadderFault.{LadderFault}
-use Rattle.std.proofs.lemmas.Bool.{cond_both}
+use Rattle.ladders.specs.declared.faults.LadderFault.TheVariants.{TooManyLadders}
+use Rattle.ladders.specs.Lawful.{LawfulSet}
+use Rattle.ladders.specs.LawfulPrices.{PricesByLadder}
 use Rattle.ladders.specs.Prices.{within}
 use Rattle.ladders.specs.Rounding.{AnswersWhere, Above, Below, Near}
 use Rattle.ladders.specs.Sets.{lawful_at, each_fault, set_fault}
@@ -91,3 +98,33 @@ module _ {D L : Type 0} (fault : D → Option LadderFault) (prices : D → ℤ �
   described_lawful (d ∷ ds) [] t n v = absurd t
   described_lawful (d ∷ ds) (l ∷ ls) t zero v = t.0 v
   described_lawful (d ∷ ds) (l ∷ ls) t (suc n) v = described_lawful ds ls t.1 n v
+
+-- ---- in the words of the rules
+
+-- without a fault there are 1 to 16 ladders, each lawful
+size_lawful : (n : ℕ) → size_fault n ≡ None → (1 ≤ n) × (n ≤ 16)
+size_lawful zero e = absurd (none-some _ (sym e))
+size_lawful (suc n) e = let few = leb-true (suc n) 16 (none_where (nat_le (suc n) 16) None TooManyLadders e).0 in (omega arith, few)
+
+module _ {D : Type 0} (fault : D → Option LadderFault) (lawful : D → Type 0) (decided : (d : D) → Decides (is_none (fault d)) (lawful d)) where
+  each_lawful : (ds : List D) → each_fault fault ds ≡ None → AllByRecursion lawful ds
+  each_lawful [] e = tt
+  each_lawful (d ∷ ds) e =
+      let both = none_of_both (fault d) (each_fault fault ds) e in
+      ((decided d).0 (ap is_none both.0), each_lawful ds both.1)
+
+  pub set_lawful : (ds : List D) → set_fault fault ds ≡ None → LawfulSet lawful ds
+  set_lawful ds e =
+      let both = none_of_both (size_fault (length ds)) (each_fault fault ds) e in
+      let size = size_lawful (length ds) both.0 in
+      record { some = size.0; few = size.1; each = each_lawful ds both.1 }
+
+-- what lawful descriptions tell of their prices holds of the ladders at their numbers
+module _ {D : Type 0} (lawful : D → Type 0) (prices : D → ℤ → Bool) (lawful_prices : D → (ℤ → Bool) → Type 0) (told : (d : D) → lawful d → lawful_prices d (prices d)) where
+  at_number : (ds : List D) → AllByRecursion lawful ds → (n : ℕ) (d : D) → slice_get ds n ≡ Some d → lawful_prices d (lawful_at prices ds n)
+  at_number [] h n d e = absurd (none-some d e)
+  at_number (c ∷ cs) h zero d e = subst (λ (x : D). lawful_prices x (prices c)) (ap (λ o. unwrap_or o c) e) (told c h.0)
+  at_number (c ∷ cs) h (suc n) d e = at_number cs h.1 n d e
+
+  pub prices_by_ladder : (ds : List D) (all : ℕ → ℤ → Bool) → AllByRecursion lawful ds → ((n : ℕ) (v : ℤ) → all n v ≡ lawful_at prices ds n v) → PricesByLadder lawful_prices ds all
+  prices_by_ladder ds all h same n d e = subst (lawful_prices d) (fun_ext (λ v. sym (same n v))) (at_number ds h n d e)

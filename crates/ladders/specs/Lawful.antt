@@ -43,3 +43,9 @@ pub record LawfulBands (bs : List Band) : Type 0 where
   pub few : length bs ≤ 4
   pub ticks : AllByRecursion (λ b. LawfulTick b.tick) bs
   pub joined : Joined bs
+
+-- 1 to 16 descriptions of ladders, each lawful
+pub record LawfulSet {D : Type 0} (lawful : D → Type 0) (ds : List D) : Type 0 where
+  pub some : 1 ≤ length ds
+  pub few : length ds ≤ 16
+  pub each : AllByRecursion lawful ds

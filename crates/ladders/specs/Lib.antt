@@ -2,6 +2,7 @@ pub mod Prices
 pub mod Multiples
 pub mod Faults
 pub mod Lawful
+pub mod LawfulPrices
 pub mod Bands
 pub mod Sets
 pub mod Fractions
@@ -9,11 +10,11 @@ pub mod Rounding
 pub mod Values
 pub mod Rounded
 pub mod Laws
-pub mod Worked
 pub mod InSet
 pub mod ToTick
 pub mod Products
 pub mod InBand
 pub mod Descriptions
+pub mod ByBand
 pub mod Orders
 pub mod Made

@@ -11,4 +11,3 @@ pub mod rungs;
 pub mod sets;
 pub mod stepping;
 pub mod ticks;
-pub mod worked;

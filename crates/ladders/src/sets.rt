@@ -1,8 +1,10 @@
 // A set of 1 to 16 ladders, numbered from 0.
-ghost use Rattle.std.specs.Prelude.{◌≡◌, ℕ, ◌≤◌, Bool, true, length, take, ℤ, if◌then◌else◌, Some, None, slice_get, option_copied};
+ghost use Rattle.std.specs.Prelude.{◌≡◌, ℕ, ◌≤◌, Bool, true, length, take, ℤ, if◌then◌else◌, Some, None, is_ok, IfOk, Decides, slice_get, option_copied};
 ghost use Rattle.ladders.specs.Prices.{within};
 ghost use Rattle.ladders.specs.Rounding.{AnswersWhere, Above, Below, Near};
 ghost use Rattle.ladders.specs.Faults.{TakenUnless, size_fault};
+ghost use Rattle.ladders.specs.Lawful.{LawfulSet};
+ghost use Rattle.ladders.specs.LawfulPrices.{PricesByLadder};
 ghost use Rattle.ladders.specs.Sets.{lawful_at, set_fault};
 ghost use Rattle.ladders.specs.InSet.{lacks, set_is_near};
 
@@ -79,12 +81,14 @@ impl<L: Ladder> SetOf<L> {
     /// The set of the ladders that are described, numbered in their order. The error is the first fault: of their number, or of the
     /// first ladder that is not lawful.
     pub fn new<D: Describes<L>>(described: &[D]) -> Result<SetOf<L>, LadderFault>
-        ensures { TakenUnless (set_fault D.Describes.fault described.now)
+        ensures lawful { Decides (is_ok result) (LawfulSet D.Describes.keeps_rules described.now) }
+        ensures made { TakenUnless (set_fault D.Describes.fault described.now)
             (λ s.
             let set = ⟦<SetOf<L> as LadderSet>⟧ in
             (set.size s ≡ length described.now)
             × ((n : ℕ) (v : ℤ) → set.lawful s n v ≡ lawful_at D.Describes.prices described.now n v))
             result }
+        ensures prices { IfOk result (λ s. PricesByLadder D.Describes.lawful_prices described.now (⟦<SetOf<L> as LadderSet>⟧.lawful s)) }
     {
         let count = checked_count(described.len())?;
         // The first is checked twice, as the array needs a filler.

@@ -1,5 +1,5 @@
 // A stepped ladder: one to four bands, each with a tick for its prices.
-ghost use Rattle.std.specs.Prelude.{◌≡◌, ◌≤◌, false, map, length, take, pos, is_some, is_ok, Some, None, Decides, int_lt, nat_le};
+ghost use Rattle.std.specs.Prelude.{◌≡◌, ◌≤◌, false, map, length, take, pos, is_some, is_ok, Some, None, IfOk, Decides, int_lt, nat_le};
 ghost use Rattle.ladders.specs.Bands.{tick_at, in_bands, band, described, description, rises, band_fault, start_fault, first_fault, later_fault, ladder_fault};
 ghost use Rattle.ladders.specs.Faults.{TakenUnless};
 ghost use Rattle.ladders.specs.Lawful.{LawfulBands};
@@ -122,12 +122,13 @@ fn is_under(v: i64, start: i64) -> bool
 }
 
 impl SteppedLadder {
+    ghost use Rattle.ladders.specs.LawfulPrices.{PricesByBand};
     ghost use Rattle.ladders.specs.Made.{bands_of};
 
-    /// The ladder of these bands: taken exactly if they are lawful, and otherwise refused with the first fault.
-    pub fn new(bands: &[Band]) -> Result<SteppedLadder, LadderFault>
-        ensures lawful { Decides (is_ok result) (LawfulBands bands.now) }
-        ensures made { TakenUnless (ladder_fault bands.now) (λ l. bands_of l ≡ bands.now) result }
+    // The ladder of these bands, unless they have a fault. Apart from `new`, so that what is made wrongly fails here, and not in the
+    // proof of the rules' words.
+    fn checked(bands: &[Band]) -> Result<SteppedLadder, LadderFault>
+        ensures { TakenUnless (ladder_fault bands.now) (λ l. bands_of l ≡ bands.now) result }
     {
         let [head, rest @ ..] = bands else {
             return Err(LadderFault::NoBand);
@@ -142,6 +143,15 @@ impl SteppedLadder {
             later,
             count: rest.len(),
         })
+    }
+
+    /// The ladder of these bands: taken exactly if they are lawful, and otherwise refused with the first fault.
+    pub fn new(bands: &[Band]) -> Result<SteppedLadder, LadderFault>
+        ensures lawful { Decides (is_ok result) (LawfulBands bands.now) }
+        ensures made { TakenUnless (ladder_fault bands.now) (λ l. bands_of l ≡ bands.now) result }
+        ensures prices { IfOk result (λ l. PricesByBand bands.now (⟦<SteppedLadder as Ladder>⟧.holds l)) }
+    {
+        SteppedLadder::checked(bands)
     }
 
     // The tick of the band that v lies in: that of the last band which does not begin over v.

@@ -1,5 +1,5 @@
 // A tick, and the even ladder of its multiples.
-ghost use Rattle.std.specs.Prelude.{◌≡◌, ◌≤◌, true, pos, ◌≤ℤ◌, ◌<ℤ◌};
+ghost use Rattle.std.specs.Prelude.{◌≡◌, ◌≤◌, true, pos, ◌≤ℤ◌, ◌<ℤ◌, is_ok, IfOk, Decides};
 ghost use Rattle.std.specs.Int.{int_rem_euclid};
 ghost use Rattle.ladders.specs.Faults.{TakenUnless, tick_fault};
 ghost use Rattle.ladders.specs.Multiples.{multiple};
@@ -21,11 +21,15 @@ pub struct Tick {
 }
 
 impl Tick {
+    ghost use Rattle.ladders.specs.Lawful.{LawfulTick};
+    ghost use Rattle.ladders.specs.LawfulPrices.{PricesByTick};
     ghost use Rattle.ladders.specs.Made.{points_of};
 
     /// A tick of 1 to 1,000,000 points; of any other number the error is `TickOutOfRange`.
     pub fn new(points: i64) -> Result<Tick, LadderFault>
-        ensures { TakenUnless (tick_fault points) (λ t. pos (points_of t) ≡ points) result }
+        ensures lawful { Decides (is_ok result) (LawfulTick points) }
+        ensures made { TakenUnless (tick_fault points) (λ t. pos (points_of t) ≡ points) result }
+        ensures prices { IfOk result (λ t. PricesByTick points (⟦<Tick as Ladder>⟧.holds t)) }
     {
         match u32::try_from(points) {
             Ok(points @ 1..=LARGEST) => Ok(Tick { points }),

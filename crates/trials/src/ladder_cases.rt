@@ -1,10 +1,10 @@
 // Examples: the worked roundings, the ends of the range of ticks at both limits, and two makes with the same lawful prices.
+use house::worked::{Way, WorkedPrice, worked_prices};
 use ladders::bands::Band;
 use ladders::laws::round_two;
 use ladders::rounding::{Rounded, nearest, round};
 use ladders::rungs::Ladder;
 use ladders::sets::{EvenSet, LadderSet, SteppedSet};
-use ladders::worked::{Way, worked_roundings};
 use std::test::Fail;
 
 fn three(below: i64, nearest: i64, above: i64) -> Option<Rounded> {
@@ -17,12 +17,20 @@ fn three(below: i64, nearest: i64, above: i64) -> Option<Rounded> {
 
 #[test]
 fn worked_roundings_come_out(rt: HostRuntime) -> Result<(), Fail> {
-    for w in worked_roundings() {
-        let set = EvenSet::new(&[i64::from(w.tick)])?;
-        let found = round(&set, 0, w.fraction).ok_or("nothing found")?;
-        match w.way {
-            Way::Nearest => assert_eq!(rt; found.nearest, w.price),
-            Way::Above => assert_eq!(rt; found.above, w.price),
+    for worked in worked_prices() {
+        if let WorkedPrice::Rounding {
+            tick,
+            way,
+            fraction,
+            price,
+        } = worked
+        {
+            let set = EvenSet::new(&[i64::from(tick)])?;
+            let found = round(&set, 0, fraction).ok_or("nothing found")?;
+            match way {
+                Way::Nearest => assert_eq!(rt; found.nearest, price),
+                Way::Above => assert_eq!(rt; found.above, price),
+            }
         }
     }
     Ok(())

@@ -1,7 +1,7 @@
-use Rattle.std.proofs.Common.{◌≡◌, ◌<◌, List, length, take, ap, ◌∙◌, subst, arith}
+use Rattle.std.proofs.Common.{◌≡◌, ◌<◌, List, length, take, refl, ap, ◌∙◌, subst, arith}
 use Rattle.std.proofs.lemmas.List.{length-set, take_all, at_drop_all}
 use Rattle.ladders.specs.Sets.{lawful_at, each_fault}
-use Rattle.ladders.specs.InSet.{AsDescribed, sound_at, described_more, described_lawful, sized}
+use Rattle.ladders.specs.InSet.{AsDescribed, sound_at, described_more, described_lawful, sized, set_lawful, prices_by_ladder}
 use Rattle.ladders.proofs.sets.SetOf.new.Goals as goal
 
 pub loop-i-preserved : goal.loop-i-preserved
@@ -20,8 +20,8 @@ loop-i-preserved g c =
       sound_at D.fault D.prices H ds i next.result c.loop-i-test.true next.is c.loop-i.invariant.2 sound.0,
     )
 
-pub returns : goal.returns
-returns g c =
+pub returns-clause-made : goal.returns-clause-made
+returns-clause-made g c =
     let D = g.D.Describes in
     let H = g.L.Ladder.holds in
     let ds = c.args.described.now in
@@ -35,3 +35,16 @@ returns g c =
         λ n v. ap (λ k. lawful_at H (take k c.loop-i.ladders) n v) all ∙ described_lawful D.fault D.prices H ds (take i c.loop-i.ladders) as_described n v,
       ),
     )
+
+pub returns-clause-lawful : goal.returns-clause-lawful
+returns-clause-lawful g c =
+    let D = g.D.Describes in
+    let made = returns-clause-made g c in
+    (λ _. set_lawful D.fault D.keeps_rules g.met.D.Describes.decided c.args.described.now made.0, λ _. refl)
+
+pub returns-clause-prices : goal.returns-clause-prices
+returns-clause-prices g c =
+    let D = g.D.Describes in
+    let made = returns-clause-made g c in
+    let lawful = (returns-clause-lawful g c).0 refl in
+    prices_by_ladder D.keeps_rules D.prices D.lawful_prices g.met.D.Describes.told c.args.described.now _ lawful.each made.1.1
