@@ -49,26 +49,30 @@ is_refused None = false
 is_refused (Some (Ok s)) = false
 is_refused (Some (Err o)) = true
 
--- a refusal: no ruling stands with the first mark, and no place of the row finds a price. Its origin is the reference's, if some
--- step of the row uses the reference and that is refused; else it is the series itself
-pub record Refused (lawful : ℕ → ℤ → Bool) (ed : Edition) (x : Station) (reference : Option Answer) (o : ℕ) : Type 0 where
+-- where a refusal comes from: the reference's origin, if some step of the row uses the reference and that is refused; else the
+-- series itself, numbered n
+abbrev pub ComesFrom : List Place → Option Answer → ℕ → ℕ → Type 0
+ComesFrom ps reference n origin =
+    ((some_refers ps ≡ true) × (reference ≡ Some (Err origin)))
+    ⊎ (((some_refers ps && is_refused reference) ≡ false) × (origin ≡ n))
+
+-- a refusal: no ruling stands with the first mark, and no place of the row finds a price
+pub record Refused (lawful : ℕ → ℤ → Bool) (ed : Edition) (x : Station) (reference : Option Answer) (origin : ℕ) : Type 0 where
   pub unruled : is_first x.series.ruling ≡ false
   pub nothing : (k : ℕ) (q : Place) → at (row_of x.series ed) k ≡ Some q → found lawful (price_of reference) x q ≡ None
-  pub from :
-      ((some_refers (row_of x.series ed) ≡ true) × (reference ≡ Some (Err o)))
-      ⊎ (((some_refers (row_of x.series ed) && is_refused reference) ≡ false) × (o ≡ x.number))
+  pub from : ComesFrom (row_of x.series ed) reference x.number origin
 
--- a ruling with the first mark comes before the row
+-- the answer of a series, with that of its reference: a settlement by a ruling with the first mark, else by the row, or a refusal
 abbrev pub Settles : (ℕ → ℤ → Bool) → Edition → Station → Option Answer → Answer → Type 0
 Settles lawful ed x reference (Ok s) =
     RuledFirst x.series.ruling s
     ⊎ ((is_first x.series.ruling ≡ false) × StandsAt (found lawful (price_of reference) x) (row_of x.series ed) s)
-Settles lawful ed x reference (Err o) = Refused lawful ed x reference o
+Settles lawful ed x reference (Err origin) = Refused lawful ed x reference origin
 
 -- ---- along the path
 
--- the answer of a series with the stations behind it, the first of which is its reference, if there are any: it rests on the answer
--- of that one
+-- the answer of a series with the stations behind it, the first of which, if there is one, is its reference: it rests on that one's
+-- answer in the same edition
 abbrev pub AnswerOf : (ℕ → ℤ → Bool) → Edition → Station → List Station → Answer → Type 0
 AnswerOf lawful ed x [] a = Settles lawful ed x None a
 AnswerOf lawful ed x (y ∷ ys) a = (b : Answer) × AnswerOf lawful ed y ys b × Settles lawful ed x (Some b) a
@@ -78,11 +82,16 @@ abbrev pub AreReferences : (ℕ → Series) → Option ℕ → List ℕ → Type
 AreReferences all own [] = own ≡ None
 AreReferences all own (n ∷ ns) = (own ≡ Some n) × AreReferences all (all n).terms.reference ns
 
--- of a series with these stations behind it there is one answer, with one price, step and place, or one origin; and behind a
--- series there are no other references
+-- any two answers of a series with the same stations behind it are equal, in price, step and place or in the origin; and a series
+-- has no two lists of references behind it
 pub record OneAnswer : Type 0 where
-  pub answer : (lawful : ℕ → ℤ → Bool) (ed : Edition) (x : Station) (xs : List Station) (a b : Answer) → AnswerOf lawful ed x xs a → AnswerOf lawful ed x xs b → a ≡ b
-  pub references : (all : ℕ → Series) (own : Option ℕ) (ns ms : List ℕ) → AreReferences all own ns → AreReferences all own ms → ns ≡ ms
+  pub answer :
+      (lawful : ℕ → ℤ → Bool) (ed : Edition) (x : Station) (xs : List Station) (a b : Answer)
+      → AnswerOf lawful ed x xs a
+      → AnswerOf lawful ed x xs b
+      → a ≡ b
+  pub references :
+      (all : ℕ → Series) (own : Option ℕ) (ns ms : List ℕ) → AreReferences all own ns → AreReferences all own ms → ns ≡ ms
 
 -- ---- the house
 
