@@ -1,14 +1,20 @@
--- Of a series there is one answer.
-use Rattle.std.proofs.Common.{◌≡◌, ℕ, ◌+◌, ◌<◌, Bool, true, false, ◌&&◌, ◌⊎◌, List, [], ◌∷◌, ℤ, Some, None, Ok, Err, Option, refl, sym, ap, ◌∙◌, subst, inl, inr}
+-- Of a series, and of a question, there is one answer.
+use Rattle.std.proofs.Common.{◌≡◌, ℕ, ◌+◌, ◌<◌, Bool, true, false, ◌&&◌, ◌⊎◌, List, [], ◌∷◌, map, ℤ, nat_abs, Some, None, Ok, Err, Option, Result, refl, sym, ap, ◌∙◌, subst, inl, inr}
 use Rattle.std.proofs.lemmas.Bool.{both_ways, cases_order}
 use Rattle.std.proofs.lemmas.Option.{none-some, same_Some}
+use Rattle.book.specs.Ledgers.{Ledger}
 use Rattle.rows.specs.Codes.{at}
 use Rattle.rows.specs.declared.places.Edition.{Edition}
 use Rattle.rows.specs.declared.places.Place.{Place}
-use Rattle.house.specs.Answers.{Answer, origin_of, price_of, row_of, some_refers}
+use Rattle.house.specs.Answers.{Answer, origin_of, price_of, row_of, some_refers, station}
+use Rattle.house.specs.ByPath.{MayAsk}
+use Rattle.house.specs.Calls.{State}
 use Rattle.house.specs.Found.{Station, found}
-use Rattle.house.specs.Meaning.{AnswerOf, AreReferences, ComesFrom, OneAnswer, Refused, RuledFirst, Settles, StandsAt, is_first, is_refused}
+use Rattle.house.specs.Meaning.{AnswerOf, AreReferences, ComesFrom, Explained, OneAnswer, Refused, RuledFirst, Settles, StandsAt, TellsAnswer, is_first, is_refused}
+use Rattle.house.specs.Questions.{is_open, or_no_price}
+use Rattle.house.specs.Rolls.{is_listed}
 use Rattle.house.specs.declared.answers.Settlement.{Settlement}
+use Rattle.house.specs.declared.faults.HouseFault.{HouseFault}
 use Rattle.house.specs.declared.series.Ruling.{Ruling}
 use Rattle.house.specs.declared.series.Series.{Series}
 
@@ -22,13 +28,14 @@ one_ruled o s t h k =
     let same = same_Some h.ruling k.ruling (sym h.stands ∙ k.stands) in
     same_settlement s t (h.price ∙ ap (λ (r : Ruling). r.value) same ∙ sym k.price) (h.step ∙ sym k.step) (h.place ∙ sym k.place)
 
+-- where a ruling with the first mark is the answer, one stands
 not_unruled : (o : Option Ruling) (s : Settlement) → RuledFirst o s → is_first o ≡ false → ⊥
 not_unruled o s h unruled = both_ways (is_first o) unruled (ap is_first h.stands ∙ h.first)
 
 module _ (find : Place → Option ℤ) (ps : List Place) where
   -- the place at which a settlement stands does not find nothing
-  finds : (s : Settlement) (h : StandsAt find ps s) → find h.place ≡ None → ⊥
-  finds s h none = none-some s.price (sym none ∙ h.price)
+  found_there : (s : Settlement) (h : StandsAt find ps s) → find h.place ≡ None → ⊥
+  found_there s h none = none-some s.price (sym none ∙ h.price)
 
   one_stands : (s t : Settlement) → StandsAt find ps s → StandsAt find ps t → s ≡ t
   one_stands s t h k = by (cases_order h.position k.position)
@@ -40,8 +47,8 @@ module _ (find : Place → Option ℤ) (ps : List Place) where
           (same_Some s.price t.price (sym h.price ∙ ap find same ∙ k.price))
           (sym h.step ∙ ap (λ (p : Place). p.step) same ∙ k.step)
           (h.counted ∙ ap (λ n. n + 1) e ∙ sym k.counted)
-      by (inr (inl l)) = absurd (finds s h (k.before h.position h.place l h.stands))
-      by (inr (inr l)) = absurd (finds t k (h.before k.position k.place l k.stands))
+      by (inr (inl l)) = absurd (found_there s h (k.before h.position h.place l h.stands))
+      by (inr (inr l)) = absurd (found_there t k (h.before k.position k.place l k.stands))
 
 -- ---- one series
 
@@ -65,7 +72,7 @@ module _ (P : ℕ → ℤ → Bool) (ed : Edition) (x : Station) (u : Option Ans
   -- a series that is refused does not settle
   not_both : (s : Settlement) (o : ℕ) → Settles P ed x u (Ok s) → Refused P ed x u o → ⊥
   not_both s o (inl f) k = not_unruled x.series.ruling s f k.unruled
-  not_both s o (inr f) k = finds (found P (price_of u) x) ps s f.1 (k.nothing f.1.position f.1.place f.1.stands)
+  not_both s o (inr f) k = found_there (found P (price_of u) x) ps s f.1 (k.nothing f.1.position f.1.place f.1.stands)
 
   one_settled : (s t : Settlement) → Settles P ed x u (Ok s) → Settles P ed x u (Ok t) → s ≡ t
   one_settled s t (inl f) (inl g) = one_ruled x.series.ruling s t f g
@@ -96,5 +103,23 @@ one_references all own (n ∷ ns) (m ∷ ms) h k =
     let rest = one_references all (all m).terms.reference ns ms (subst (λ (r : ℕ). AreReferences all (all r).terms.reference ns) same h.1) k.1 in
     λ i. same i ∷ rest i
 
+-- ---- the house
+
+one_told : (P : ℕ → ℤ → Bool) (ed : Edition) (s : State) (m : Ledger) (n : ℕ) (r q : Result Settlement HouseFault) → TellsAnswer P ed s m n r → TellsAnswer P ed s m n q → r ≡ q
+one_told P ed s m n r q h k =
+    let same = one_references s.roll.series (s.roll.series n).terms.reference h.numbers k.numbers h.references k.references in
+    let there = subst (λ (ns : List ℕ). AnswerOf P ed (station s m n) (map (station s m) ns) h.answer) same h.stands in
+    h.told ∙ ap or_no_price (one_along P ed (station s m n) (map (station s m) k.numbers) h.answer k.answer there k.stands) ∙ sym k.told
+
+one_explained : (P : ℕ → ℤ → Bool) (ed : Edition) (s : State) (m : Ledger) (n : ℤ) (r q : Result Settlement HouseFault) → Explained P ed s m n r → Explained P ed s m n q → r ≡ q
+one_explained P ed s m n r q h k = by (is_open s.phase ed) (is_listed s.roll.count n) refl refl
+  where
+    by : (opened listed : Bool) → is_open s.phase ed ≡ opened → is_listed s.roll.count n ≡ listed → r ≡ q
+    by false listed o l = h.not_open o ∙ sym (k.not_open o)
+    by true false o l = h.not_listed o l ∙ sym (k.not_listed o l)
+    by true true o l =
+        let may : MayAsk ed n s = record { opened = o; listed = l } in
+        one_told P ed s m (nat_abs n) r q (h.asked may) (k.asked may)
+
 pub one_answer : OneAnswer
-one_answer = record { answer = one_along; references = one_references }
+one_answer = record { answer = one_along; result = one_explained }

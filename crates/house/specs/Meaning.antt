@@ -82,17 +82,6 @@ abbrev pub AreReferences : (ℕ → Series) → Option ℕ → List ℕ → Type
 AreReferences all own [] = own ≡ None
 AreReferences all own (n ∷ ns) = (own ≡ Some n) × AreReferences all (all n).terms.reference ns
 
--- any two answers of a series with the same stations behind it are equal, in price, step and place or in the origin; and a series
--- has no two lists of references behind it
-pub record OneAnswer : Type 0 where
-  pub answer :
-      (lawful : ℕ → ℤ → Bool) (ed : Edition) (x : Station) (xs : List Station) (a b : Answer)
-      → AnswerOf lawful ed x xs a
-      → AnswerOf lawful ed x xs b
-      → a ≡ b
-  pub references :
-      (all : ℕ → Series) (own : Option ℕ) (ns ms : List ℕ) → AreReferences all own ns → AreReferences all own ms → ns ≡ ms
-
 -- ---- the house
 
 -- the answer of the series numbered n is told, in a house of this state with a book of this meaning
@@ -108,3 +97,19 @@ pub record Explained (lawful : ℕ → ℤ → Bool) (ed : Edition) (s : State) 
   pub not_open : is_open s.phase ed ≡ false → r ≡ Err WrongPhase
   pub not_listed : is_open s.phase ed ≡ true → is_listed s.roll.count n ≡ false → r ≡ Err NoSuchSeries
   pub asked : MayAsk ed n s → TellsAnswer lawful ed s m (unsigned_abs n) r
+
+-- ---- one answer
+
+-- any two answers of a series with the same stations behind it are equal, in price, step and place or in the origin; and so are any
+-- two results of a question that are explained
+pub record OneAnswer : Type 0 where
+  pub answer :
+      (lawful : ℕ → ℤ → Bool) (ed : Edition) (x : Station) (xs : List Station) (a b : Answer)
+      → AnswerOf lawful ed x xs a
+      → AnswerOf lawful ed x xs b
+      → a ≡ b
+  pub result :
+      (lawful : ℕ → ℤ → Bool) (ed : Edition) (s : State) (m : Ledger) (n : ℤ) (r q : Result Settlement HouseFault)
+      → Explained lawful ed s m n r
+      → Explained lawful ed s m n q
+      → r ≡ q
