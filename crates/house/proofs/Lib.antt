@@ -6,5 +6,6 @@ pub mod Looked
 mod RowWalk
 pub mod Paths
 pub mod Explained
+pub mod Determined
 pub mod OnPath
 mod OnTick

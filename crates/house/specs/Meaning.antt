@@ -1,33 +1,23 @@
--- What an answer says of a path, in the words of the rows.
-use Rattle.std.specs.Prelude.{◌≡◌, ℕ, ◌+◌, ◌<◌, Bool, true, false, ◌&&◌, ◌⊎◌, List, [], ◌∷◌, ◌++◌, map, ℤ, Some, None, Ok, Err, Option, Result}
-use Rattle.std.specs.List.{AllByRecursion}
+-- What is answered of a series, as relations in the words of the rules.
+use Rattle.std.specs.Prelude.{◌≡◌, ℕ, ◌+◌, ◌<◌, Bool, true, false, ◌&&◌, ◌⊎◌, List, [], ◌∷◌, map, ℤ, Some, None, Ok, Err, Option, Result, unsigned_abs}
 use Rattle.book.specs.Ledgers.{Ledger}
 use Rattle.rows.specs.Codes.{at}
 use Rattle.rows.specs.declared.places.Edition.{Edition}
 use Rattle.rows.specs.declared.places.Place.{Place}
 use Rattle.rows.specs.declared.steps.Step as steps
-use Rattle.house.specs.Answers.{Answer, price_of, references, row_of, path_answer, some_refers, station}
+use Rattle.house.specs.Answers.{Answer, price_of, row_of, some_refers, station}
+use Rattle.house.specs.ByPath.{MayAsk}
 use Rattle.house.specs.Calls.{State}
 use Rattle.house.specs.Found.{Station, found}
+use Rattle.house.specs.Questions.{is_open, or_no_price}
+use Rattle.house.specs.Rolls.{is_listed}
 use Rattle.house.specs.declared.answers.Settlement.{Settlement}
 use Rattle.house.specs.declared.faults.HouseFault.{HouseFault}
-use Rattle.house.specs.declared.faults.HouseFault.TheVariants.{NoPrice}
+use Rattle.house.specs.declared.faults.HouseFault.TheVariants.{NoSuchSeries, WrongPhase}
 use Rattle.house.specs.declared.series.Ruling.{Ruling}
+use Rattle.house.specs.declared.series.Series.{Series}
 
--- a settlement is read off a position of the row: that place has the step and finds the price, and no earlier place finds one
-pub record StandsAt (find : Place → Option ℤ) (ps : List Place) (s : Settlement) : Type 0 where
-  pub position : ℕ
-  pub place : Place
-  pub stands : at ps position ≡ Some place
-  pub counted : s.place ≡ position + 1
-  pub step : place.step ≡ s.step
-  pub price : find place ≡ Some s.price
-  pub before : (k : ℕ) (q : Place) → k < position → at ps k ≡ Some q → find q ≡ None
-
--- the answer of the stations behind, if any
-abbrev pub reference_answer : (ℕ → ℤ → Bool) → Edition → List Station → Option Answer
-reference_answer lawful ed [] = None
-reference_answer lawful ed (y ∷ ys) = Some (path_answer lawful ed y ys)
+-- ---- one series, with what is answered of its reference, if it has one
 
 -- whether a ruling stands with the first mark
 abbrev pub is_first : Option Ruling → Bool
@@ -43,33 +33,83 @@ pub record RuledFirst (o : Option Ruling) (s : Settlement) : Type 0 where
   pub step : s.step ≡ steps.TheVariants.Ruling
   pub place : s.place ≡ 0
 
+-- a settlement is read off a position of the row: that place has the step and finds the price, and no earlier place finds one
+pub record StandsAt (find : Place → Option ℤ) (ps : List Place) (s : Settlement) : Type 0 where
+  pub position : ℕ
+  pub place : Place
+  pub stands : at ps position ≡ Some place
+  pub counted : s.place ≡ position + 1
+  pub step : place.step ≡ s.step
+  pub price : find place ≡ Some s.price
+  pub before : (k : ℕ) (q : Place) → k < position → at ps k ≡ Some q → find q ≡ None
+
 -- whether there is a reference and it is refused
 abbrev pub is_refused : Option Answer → Bool
 is_refused None = false
 is_refused (Some (Ok s)) = false
 is_refused (Some (Err o)) = true
 
--- a refusal comes from the first station of the path whose row does not use a refused reference; it has no ruling with the
--- first mark, and its row finds nothing
-pub record Refused (lawful : ℕ → ℤ → Bool) (ed : Edition) (path : List Station) (o : ℕ) : Type 0 where
-  pub front : List Station
-  pub from : Station
-  pub rest : List Station
-  pub on_path : path ≡ front ++ (from ∷ rest)
-  pub number : o ≡ from.number
-  pub unruled : is_first from.series.ruling ≡ false
-  pub nothing : AllByRecursion (λ p. found lawful (price_of (reference_answer lawful ed rest)) from p ≡ None) (row_of from.series ed)
-  pub passed : AllByRecursion (λ y. some_refers (row_of y.series ed) ≡ true) front
-  pub own : (some_refers (row_of from.series ed) && is_refused (reference_answer lawful ed rest)) ≡ false
+-- where a refusal comes from: the reference's origin, if some step of the row uses the reference and that is refused; else the
+-- series itself, numbered n
+abbrev pub ComesFrom : List Place → Option Answer → ℕ → ℕ → Type 0
+ComesFrom ps reference n origin =
+    ((some_refers ps ≡ true) × (reference ≡ Some (Err origin)))
+    ⊎ (((some_refers ps && is_refused reference) ≡ false) × (origin ≡ n))
 
--- what an answer says of a series with the stations behind it
-abbrev pub Settles : (ℕ → ℤ → Bool) → Edition → Station → List Station → Answer → Type 0
-Settles lawful ed x xs (Ok s) =
+-- a refusal: no ruling stands with the first mark, and no place of the row finds a price
+pub record Refused (lawful : ℕ → ℤ → Bool) (ed : Edition) (x : Station) (reference : Option Answer) (origin : ℕ) : Type 0 where
+  pub unruled : is_first x.series.ruling ≡ false
+  pub nothing : (k : ℕ) (q : Place) → at (row_of x.series ed) k ≡ Some q → found lawful (price_of reference) x q ≡ None
+  pub from : ComesFrom (row_of x.series ed) reference x.number origin
+
+-- the answer of a series, with that of its reference: a settlement by a ruling with the first mark, else by the row, or a refusal
+abbrev pub Settles : (ℕ → ℤ → Bool) → Edition → Station → Option Answer → Answer → Type 0
+Settles lawful ed x reference (Ok s) =
     RuledFirst x.series.ruling s
-    ⊎ ((is_first x.series.ruling ≡ false) × StandsAt (found lawful (price_of (reference_answer lawful ed xs)) x) (row_of x.series ed) s)
-Settles lawful ed x xs (Err o) = Refused lawful ed (x ∷ xs) o
+    ⊎ ((is_first x.series.ruling ≡ false) × StandsAt (found lawful (price_of reference) x) (row_of x.series ed) s)
+Settles lawful ed x reference (Err origin) = Refused lawful ed x reference origin
 
--- what the house's answer says of the series numbered n, in a house of this state with a book of this meaning
-pub record Explained (lawful : ℕ → ℤ → Bool) (ed : Edition) (s : State) (m : Ledger) (n : ℕ) (r : Result Settlement HouseFault) : Type 0 where
-  pub settled : (x : Settlement) → r ≡ Ok x → Settles lawful ed (station s m n) (map (station s m) (references s.roll.series n)) (Ok x)
-  pub refused : (o : ℕ) → r ≡ Err (NoPrice o) → Settles lawful ed (station s m n) (map (station s m) (references s.roll.series n)) (Err o)
+-- ---- along the path
+
+-- the answer of a series with the stations behind it, the first of which, if there is one, is its reference: it rests on that one's
+-- answer in the same edition
+abbrev pub AnswerOf : (ℕ → ℤ → Bool) → Edition → Station → List Station → Answer → Type 0
+AnswerOf lawful ed x [] a = Settles lawful ed x None a
+AnswerOf lawful ed x (y ∷ ys) a = (b : Answer) × AnswerOf lawful ed y ys b × Settles lawful ed x (Some b) a
+
+-- the references behind a series: its own, if it has one, then that one's, and so on to one that has none
+abbrev pub AreReferences : (ℕ → Series) → Option ℕ → List ℕ → Type 0
+AreReferences all own [] = own ≡ None
+AreReferences all own (n ∷ ns) = (own ≡ Some n) × AreReferences all (all n).terms.reference ns
+
+-- ---- the house
+
+-- the answer of the series numbered n is told, in a house of this state with a book of this meaning
+pub record TellsAnswer (lawful : ℕ → ℤ → Bool) (ed : Edition) (s : State) (m : Ledger) (n : ℕ) (r : Result Settlement HouseFault) : Type 0 where
+  pub numbers : List ℕ
+  pub references : AreReferences s.roll.series (s.roll.series n).terms.reference numbers
+  pub answer : Answer
+  pub stands : AnswerOf lawful ed (station s m n) (map (station s m) numbers) answer
+  pub told : r ≡ or_no_price answer
+
+-- a question is refused while the edition is not open, then for a series that is not listed; else it is answered
+pub record Explained (lawful : ℕ → ℤ → Bool) (ed : Edition) (s : State) (m : Ledger) (n : ℤ) (r : Result Settlement HouseFault) : Type 0 where
+  pub not_open : is_open s.phase ed ≡ false → r ≡ Err WrongPhase
+  pub not_listed : is_open s.phase ed ≡ true → is_listed s.roll.count n ≡ false → r ≡ Err NoSuchSeries
+  pub asked : MayAsk ed n s → TellsAnswer lawful ed s m (unsigned_abs n) r
+
+-- ---- one answer
+
+-- any two answers of a series with the same stations behind it are equal, in price, step and place or in the origin; and so are any
+-- two results of a question that are explained
+pub record OneAnswer : Type 0 where
+  pub answer :
+      (lawful : ℕ → ℤ → Bool) (ed : Edition) (x : Station) (xs : List Station) (a b : Answer)
+      → AnswerOf lawful ed x xs a
+      → AnswerOf lawful ed x xs b
+      → a ≡ b
+  pub result :
+      (lawful : ℕ → ℤ → Bool) (ed : Edition) (s : State) (m : Ledger) (n : ℤ) (r q : Result Settlement HouseFault)
+      → Explained lawful ed s m n r
+      → Explained lawful ed s m n q
+      → r ≡ q

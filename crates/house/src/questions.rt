@@ -1,9 +1,9 @@
 // The question for a price.
-ghost use Rattle.std.specs.Prelude.{◌≡◌, unsigned_abs};
+ghost use Rattle.std.specs.Prelude.{◌≡◌};
 ghost use Rattle.house.specs.Answers.{answer_at};
 ghost use Rattle.house.specs.ByPath.{ByPath};
 ghost use Rattle.house.specs.Houses.{set_of, state};
-ghost use Rattle.house.specs.Meaning.{Explained};
+ghost use Rattle.house.specs.Meaning.{Explained, OneAnswer};
 ghost use Rattle.house.specs.Questions.{is_open, settle_answer};
 ghost use Rattle.house.specs.Reach.{AnswerInReach};
 
@@ -78,7 +78,8 @@ impl<L: LadderSet> House<L> {
     ) -> Result<Settlement, HouseFault>
         ensures answer { result ≡ settle_answer (L.lawful (set_of self.now)) edition series (state self.now) (B.meaning book.now) }
         ensures path { ByPath (L.lawful (set_of self.now)) edition (state self.now) (B.meaning book.now) series result }
-        ensures meaning { Explained (L.lawful (set_of self.now)) edition (state self.now) (B.meaning book.now) (unsigned_abs series) result }
+        ensures meaning { Explained (L.lawful (set_of self.now)) edition (state self.now) (B.meaning book.now) series result }
+        ensures one { OneAnswer }
     {
         self.answer_to(book, series, edition)
     }

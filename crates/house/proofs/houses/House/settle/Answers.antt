@@ -2,6 +2,7 @@ use Rattle.std.proofs.Common.{ap, ◌∙◌, w64}
 use Rattle.std.proofs.lemmas.Int.{to_z-of_z}
 use Rattle.house.specs.Houses.{state}
 use Rattle.house.specs.Questions.{settle_answer}
+use Rattle.house.proofs.Determined.{one_answer}
 use Rattle.house.proofs.Explained.{answer_explained}
 use Rattle.house.proofs.OnPath.{answered_by_path}
 use Rattle.house.proofs.houses.House.settle.Goals as goal
@@ -14,4 +15,9 @@ returns g c =
     let ed = c.args.edition in
     let n = c.args.series in
     let stated = c.answer_to.ensures ∙ ap (λ z. settle_answer P ed z s m) (to_z-of_z w64 n c.ranges.series) in
-    record { answer = stated; path = answered_by_path P ed s m n c.answer_to.result stated; meaning = answer_explained P ed s m n c.answer_to.result stated }
+    record {
+      answer = stated;
+      path = answered_by_path P ed s m n c.answer_to.result stated;
+      meaning = answer_explained P ed s m c.args.self.now.listed.lawful n c.answer_to.result stated;
+      one = one_answer;
+    }
