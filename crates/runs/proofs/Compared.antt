@@ -11,9 +11,9 @@ use Rattle.book.specs.Records.{every, figures_of}
 use Rattle.book.specs.Windows.{edges}
 use Rattle.book.specs.declared.days.Day.{Day}
 use Rattle.book.specs.declared.entries.Entry.{Entry}
-use Rattle.book.proofs.Folds.{bounded_from}
-use Rattle.book.proofs.Growth.{bounded_empty}
-use Rattle.book.proofs.Ranges.{allowed_kind}
+use Rattle.book.specs.LawfulRecords.{bounded_from}
+use Rattle.book.specs.Growth.{bounded_empty}
+use Rattle.book.specs.Ranges.{allowed_kind}
 use Rattle.ladders.specs.Rounding.{Near}
 use Rattle.rows.specs.declared.places.Edition.{Edition}
 use Rattle.house.specs.Answers.{Answer, answer_at, path_answer, references, station_of}
