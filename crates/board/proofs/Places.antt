@@ -1,10 +1,9 @@
--- What the table holds inside series 0 to 31 and windows 1 to 13, and outside.
-use Rattle.std.proofs.Common.{◌≡◌, ℕ, ◌<◌, ◌≤◌, true, false, ◌&&◌, leb, List, get_or, replicate, refl, arith}
+-- Where the table holds the records of series 0 to 31 and windows 1 to 13, and what it holds if all are empty.
+use Rattle.std.proofs.Common.{◌≡◌, ℕ, ◌<◌, ◌≤◌, true, ◌&&◌, leb, get_or, replicate, refl, arith}
 use Rattle.std.proofs.lemmas.List.{get_or-replicate}
-use Rattle.std.proofs.lemmas.Bool.{and_parts, cond-false, cond_both, leb-true}
+use Rattle.std.proofs.lemmas.Bool.{and_parts, cond_both, leb-true}
 use Rattle.book.specs.Figures.{empty}
 use Rattle.book.specs.Ledgers.{in_range}
-use Rattle.book.specs.declared.figures.Figures.{Figures}
 use Rattle.board.specs.Cells.{cell, cell_index}
 
 pub range_bounds : (s w : ℕ) → in_range s w ≡ true → (s ≤ 31) × ((1 ≤ w) × (w ≤ 13))
@@ -20,9 +19,6 @@ place_within s w h =
     let first = b.1.0 in
     let last = b.1.1 in
     omega arith
-
-pub cell_outside : (cells : List Figures) (s w : ℕ) → in_range s w ≡ false → cell cells s w ≡ empty
-cell_outside cells s w h = cond-false (in_range s w) (get_or cells (cell_index s w) empty) empty h
 
 -- a table of empty records has empty figures everywhere
 pub cell_none : (s w : ℕ) → cell (replicate 416 empty) s w ≡ empty

@@ -9,8 +9,8 @@ use Rattle.book.specs.Windows.{edges}
 use Rattle.book.specs.declared.days.Day.{Day}
 use Rattle.book.specs.declared.entries.Entry.{Entry}
 use Rattle.book.specs.declared.figures.Figures.{Figures}
-use Rattle.book.proofs.Growth.{bounded_entered, enters, roomy_from}
-use Rattle.book.proofs.Ranges.{allowed_kind, allowed_stamp, outside_stays}
+use Rattle.book.specs.Growth.{bounded_entered, enters, roomy_from}
+use Rattle.book.specs.Ranges.{allowed_kind, allowed_stamp, outside_stays}
 use Rattle.book.proofs.Taking.{Admitted, admitted, same_reply}
 use Rattle.board.specs.Cells.{cell, tabled}
 

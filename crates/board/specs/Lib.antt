@@ -1,1 +1,2 @@
 pub mod Cells
+pub mod LawfulTable

@@ -1,9 +1,11 @@
 // The board.
 ghost use Rattle.std.specs.Prelude.{◌≡◌, ℕ, ◌≤◌, min, true};
 ghost use Rattle.book.specs.Bounds.{bounded};
-ghost use Rattle.book.specs.Figures.{values};
+ghost use Rattle.book.specs.Days.{is_lawful_day};
+ghost use Rattle.book.specs.Figures.{empty, values};
 ghost use Rattle.book.specs.Ledgers.{fresh};
 ghost use Rattle.board.specs.Cells.{cell, tabled};
+ghost use Rattle.board.specs.LawfulTable.{table_is_lawful};
 
 use crate::tables::Table;
 use book::books::{Book, MOST, Reusable, admit};
@@ -17,12 +19,14 @@ use book::lawful::LawfulDay;
 #[derive(Drop)]
 pub struct Board {
     table: Table,
-    day: LawfulDay,
+    day: Day,
     capacity: u16,
     count: u16,
+    ghost lawful_day: { is_lawful_day day ≡ true },
     ghost most: { capacity ≤ 30000 },
     ghost room: { count ≤ capacity },
     ghost bounds: { (s w : ℕ) → bounded count (values (cell table.cells s w)) ≡ true },
+    ghost none_taken: { count ≡ 0 → (s w : ℕ) → cell table.cells s w ≡ empty },
 }
 
 impl Board {
@@ -32,7 +36,7 @@ impl Board {
     {
         Board {
             table: Table::empty(),
-            day,
+            day: day.day(),
             capacity: capacity.min(MOST) as u16,
             count: 0,
         }
@@ -49,6 +53,15 @@ impl Board {
 
 impl Book for Board {
     ghost meaning = { λ b. tabled b.day b.capacity b.count b.table.cells };
+
+    // A board is lent no memory.
+    ghost Memory = { Unit {0} };
+
+    ghost memory = { λ _. tt };
+
+    ghost with_stored = { λ memory _ _. memory };
+
+    ghost lawful = { λ b. table_is_lawful b.day b.capacity b.count b.table.cells b.lawful_day b.most b.room b.bounds b.none_taken };
 
     fn take(&mut self, entry: Entry) -> Result<(), BookFault> {
         let day = self.day();
@@ -68,7 +81,7 @@ impl Book for Board {
     }
 
     fn day(&self) -> Day {
-        self.day.day()
+        self.day
     }
 
     fn capacity(&self) -> u16 {
@@ -82,8 +95,8 @@ impl Book for Board {
 
 impl Reusable for Board {
     fn begin(&mut self, day: LawfulDay) {
-        self.table = Table::empty();
-        self.day = day;
+        self.table.clear();
+        self.day = day.day();
         self.count = 0;
     }
 }

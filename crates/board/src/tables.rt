@@ -40,6 +40,13 @@ impl Table {
         }
     }
 
+    // Every record becomes empty, in place: a second table would take as much of the stack as the board.
+    pub(crate) fn clear(&mut self)
+        ensures { (s w : ℕ) → cell self.new.cells s w ≡ empty }
+    {
+        self.cells.fill(Figures::empty());
+    }
+
     // The figures of a series and window; empty outside the table.
     pub(crate) fn at(&self, series: u8, window: u8) -> Figures
         ensures { result ≡ cell self.now.cells series window }

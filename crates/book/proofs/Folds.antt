@@ -1,20 +1,17 @@
 -- What holds of figures after any allowed entries.
-use Rattle.std.proofs.Common.{◌≡◌, ℕ, ◌+◌, ◌≤◌, Bool, true, false, List, [], ◌∷◌, ◌++◌, length, ℤ, fold, sym, refl, ap, ◌∙◌, subst, add-zero, arith}
+use Rattle.std.proofs.Common.{◌≡◌, ℕ, ◌+◌, ◌≤◌, Bool, true, List, [], ◌∷◌, ◌++◌, length, ℤ, fold, refl, ap, ◌∙◌, arith}
 use Rattle.std.proofs.lemmas.List.{length_push}
 use Rattle.std.proofs.lemmas.List.Sums.{fold_push}
 use Rattle.std.proofs.lemmas.Bool.{and_parts, and_from}
 use Rattle.book.specs.Bounds.{bounded}
-use Rattle.book.specs.Days.{is_lawful_day}
-use Rattle.book.specs.Entries.{allowed, kind_lawful}
-use Rattle.book.specs.Figures.{empty, entered_if, entered_in, sound, stamp_small, values}
-use Rattle.book.specs.Ledgers.{Lawful, entered, with_taken, in_range}
+use Rattle.book.specs.Figures.{empty, entered_if, entered_in, sound, values}
+use Rattle.book.specs.Growth.{bounded_entered, bounded_empty, enters, roomy_from}
+use Rattle.book.specs.LawfulRecords.{sound_parts}
+use Rattle.book.specs.Ledgers.{entered, with_taken}
 use Rattle.book.specs.Records.{every, figures_of, recorded}
-use Rattle.book.specs.Windows.{edges}
 use Rattle.book.specs.declared.days.Day.{Day}
 use Rattle.book.specs.declared.entries.Entry.{Entry}
 use Rattle.book.specs.declared.figures.Figures.{Figures}
-use Rattle.book.proofs.Growth.{bounded_entered, bounded_empty, enters, roomy_from}
-use Rattle.book.proofs.Ranges.{allowed_kind, allowed_stamp, outside_stays}
 
 -- ---- tests of every element
 
@@ -24,34 +21,7 @@ every_push p (y ∷ ys) x e h =
     let both = and_parts (p y) (every p ys) e in
     and_from (p y) (every p (ys ++ (x ∷ []))) both.0 (every_push p ys x both.1 h)
 
--- ---- folds over allowed entries
-
--- allowed entries of a lawful day are sound
-pub every_sound : (d : Day) (es : List Entry) → is_lawful_day d ≡ true → every (allowed d) es ≡ true → every sound es ≡ true
-every_sound d [] l h = refl
-every_sound d (e ∷ es) l h =
-    let both = and_parts (allowed d e) (every (allowed d) es) h in
-    and_from (sound e) (every sound es)
-    (and_from (stamp_small e.stamp) (kind_lawful e.kind) (allowed_stamp d e l both.0) (allowed_kind d e both.0))
-    (every_sound d es l both.1)
-
-pub sound_parts : (e : Entry) → sound e ≡ true → (stamp_small e.stamp ≡ true) × (kind_lawful e.kind ≡ true)
-sound_parts e h = and_parts (stamp_small e.stamp) (kind_lawful e.kind) h
-
-pub bounded_from : (ok : Entry → Bool) → ((e : Entry) → ok e ≡ true → kind_lawful e.kind ≡ true) → (n s : ℕ) (x : ℤ × ℤ) (f : Figures) (es : List Entry)
-    → every ok es ≡ true → bounded n (values f) ≡ true → bounded (n + length es) (values (fold (entered_in s x) f es)) ≡ true
-bounded_from ok kind n s x f [] h b = subst (λ (k : ℕ). bounded k (values f) ≡ true) (sym (add-zero n)) b
-bounded_from ok kind n s x f (e ∷ es) h b =
-    let both = and_parts (ok e) (every ok es) h in
-    let count : (n + 1) + length es ≡ n + length (e ∷ es) = omega arith in
-    subst (λ (k : ℕ). bounded k (values (fold (entered_in s x) (entered_in s x f e) es)) ≡ true) count
-    (bounded_from ok kind (n + 1) s x (entered_in s x f e) es both.1 (bounded_entered n s x f e (kind e both.0) b))
-
--- the figures of sound entries are within the bounds of their number
-pub bounded_fold : (s : ℕ) (x : ℤ × ℤ) (es : List Entry) → every sound es ≡ true → bounded (length es) (values (fold (entered_in s x) empty es)) ≡ true
-bounded_fold s x es h =
-    let count : 0 + length es ≡ length es = omega arith in
-    subst (λ (k : ℕ). bounded k (values (fold (entered_in s x) empty es)) ≡ true) count (bounded_from sound (λ e k. (sound_parts e k).1) 0 s x empty es h (bounded_empty 0))
+-- ---- folds over sound entries
 
 -- few enough sound entries all enter: the sums never lack room
 same_from : (n s : ℕ) (x : ℤ × ℤ) (f : Figures) (es : List Entry) → n + length es ≤ 30000 → every sound es ≡ true → bounded n (values f) ≡ true → fold (entered_if s x) f es ≡ fold (entered_in s x) f es
@@ -63,22 +33,6 @@ same_from n s x f (e ∷ es) few h b =
 
 pub same_fold : (s : ℕ) (x : ℤ × ℤ) (es : List Entry) → length es ≤ 30000 → every sound es ≡ true → fold (entered_if s x) empty es ≡ fold (entered_in s x) empty es
 same_fold s x es few h = same_from 0 s x empty es (omega arith) h (bounded_empty 0)
-
-outside_from : (d : Day) (s w : ℕ) (f : Figures) (es : List Entry) → every (allowed d) es ≡ true → in_range s w ≡ false → fold (entered d s w) f es ≡ f
-outside_from d s w f [] h r = refl
-outside_from d s w f (e ∷ es) h r =
-    let both = and_parts (allowed d e) (every (allowed d) es) h in
-    ap (λ g. fold (entered d s w) g es) (outside_stays d s w f e both.0 r) ∙ outside_from d s w f es both.1 r
-
--- a book of allowed entries is lawful
-pub lawful_record : (d : Day) (k : ℕ) (es : List Entry) → is_lawful_day d ≡ true → k ≤ 30000 → length es ≤ k → every (allowed d) es ≡ true → Lawful (recorded d k es)
-lawful_record d k es l most room h = record {
-  lawful_day = l;
-  most = most;
-  room = room;
-  bounds = λ s w. bounded_fold s (edges d w) es (every_sound d es l h);
-  outside = λ s w r. outside_from d s w empty es h r;
-}
 
 -- one entry more
 pub recorded_push : (d : Day) (k : ℕ) (es : List Entry) (e : Entry) → recorded d k (es ++ (e ∷ [])) ≡ with_taken (recorded d k es) e

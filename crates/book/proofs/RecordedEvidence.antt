@@ -18,7 +18,7 @@ use Rattle.book.specs.declared.entries.Kind.{Kind}
 use Rattle.book.specs.declared.entries.Kind.TheVariants.{Trade, Auction, Leg, Spread, Quote}
 use Rattle.book.specs.declared.figures.Figures.{Figures}
 use Rattle.book.specs.declared.figures.Last.{Last}
-use Rattle.book.proofs.Orders.{le_from, over_from}
+use Rattle.book.specs.Orders.{le_from, over_from}
 
 -- what holds of no entries and stays as one more is entered holds of all
 holds_of_fold : (Rel : List Entry → Figures → Type 0) (step : Figures → Entry → Figures) → ((xs : List Entry) (f : Figures) (e : Entry) → Rel xs f → Rel (xs ++ (e ∷ [])) (step f e)) → (xs es : List Entry) (f : Figures) → Rel xs f → Rel (xs ++ es) (fold step f es)
@@ -150,6 +150,7 @@ own_fold s x f (e ∷ es) =
 
 pub evidence : (d : Day) (k : ℕ) (es : List Entry) → Evidence (recorded d k es) es
 evidence d k es = record {
+  count = refl;
   trade = λ s w. last trade_price s w (λ f. f.trade) (λ f e. (at s (edges d w) f e).trade) tt;
   auction = λ s w. last auction_price s w (λ f. f.auction) (λ f e. (at s (edges d w) f e).auction) tt;
   spread = λ s w. last spread_value s w (λ f. f.spread) (λ f e. (at s (edges d w) f e).spread) tt;

@@ -42,7 +42,11 @@ recorded_all d k xs (e ∷ es) =
     (λ p. one_refused d k xs es e p.0 p.1 (recorded_all d k xs es))
     (taken_or_refused (recorded d k xs) e)
 
-pub evidence_of_taken : (m then : Ledger) (es : List Entry) → then ≡ after_all m es → (d : Day) (k : ℕ) → m ≡ fresh d k → Evidence then (entries_taken (fresh d k) es)
-evidence_of_taken m then es is d k new =
+since_new : (m then : Ledger) (es : List Entry) → then ≡ after_all m es → (d : Day) (k : ℕ) → m ≡ fresh d k → Evidence then (entries_taken (fresh d k) es)
+since_new m then es is d k new =
     let whole : recorded d k (entries_taken (fresh d k) es) ≡ then = sym (is ∙ ap (λ n. after_all n es) new ∙ recorded_all d k [] es) in
     subst (λ (n : Ledger). Evidence n (entries_taken (fresh d k) es)) whole (evidence d k (entries_taken (fresh d k) es))
+
+pub evidence_of_taken : (m then : Ledger) (es : List Entry) → then ≡ after_all m es → (d : Day) (k : ℕ) → m ≡ fresh d k → Evidence then (entries_taken m es)
+evidence_of_taken m then es is d k new =
+    subst (λ (b : Ledger). Evidence then (entries_taken b es)) (sym new) (since_new m then es is d k new)

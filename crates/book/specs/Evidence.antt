@@ -1,5 +1,5 @@
 -- What the figures of a book say of the entries that it took, without regard to how they were computed.
-use Rattle.std.specs.Prelude.{◌≡◌, ℕ, Bool, true, false, cond, ◌&&◌, List, [], ◌∷◌, ◌++◌, ℤ, pos, ◌+ℤ◌, ◌*ℤ◌, ◌≤ℤ◌, ◌<ℤ◌, is_some, Some, None, filter, Option}
+use Rattle.std.specs.Prelude.{◌≡◌, ℕ, Bool, true, false, cond, ◌&&◌, List, [], ◌∷◌, ◌++◌, length, ℤ, pos, ◌+ℤ◌, ◌*ℤ◌, ◌≤ℤ◌, ◌<ℤ◌, is_some, Some, None, filter, Option}
 use Rattle.std.specs.List.{AllByRecursion}
 use Rattle.book.specs.Figures.{concerns, is_series}
 use Rattle.book.specs.Ledgers.{Ledger}
@@ -101,9 +101,10 @@ no_leg (Quote b a) = true
 abbrev pub own_entries : ℕ → List Entry → List Entry
 own_entries s es = filter (λ e. is_series s e.series && no_leg e.kind) es
 
--- ---- all of it, for the meaning of a book that took these entries since it was new
+-- ---- all of it, for the meaning of a book that took these entries, and no other, since it was new
 
 pub record Evidence (m : Ledger) (es : List Entry) : Type 0 where
+  pub count : m.count ≡ length es
   pub trade : (s w : ℕ) → LastOf (pick trade_price s (edges m.day w)) es (m.figures s w).trade
   pub auction : (s w : ℕ) → LastOf (pick auction_price s (edges m.day w)) es (m.figures s w).auction
   pub spread : (s w : ℕ) → LastOf (pick spread_value s (edges m.day w)) es (m.figures s w).spread

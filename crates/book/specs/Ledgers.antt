@@ -1,5 +1,5 @@
 -- A book's meaning, and what taking an entry does to it.
-use Rattle.std.specs.Prelude.{◌≡◌, ℕ, ◌+◌, ◌≤◌, Bool, true, false, cond, ◌&&◌, Ok, Err, Result, ◌==◌, nat_le}
+use Rattle.std.specs.Prelude.{◌≡◌, ℕ, ◌+◌, ◌≤◌, Bool, true, false, cond, ◌&&◌, is_ok, Ok, Err, Result, ◌==◌, nat_le}
 use Rattle.book.specs.Bounds.{bounded}
 use Rattle.book.specs.Days.{is_lawful_day}
 use Rattle.book.specs.Entries.{allowed}
@@ -46,14 +46,20 @@ with_taken m e = record {
 abbrev pub take_after : Ledger → Entry → Ledger
 take_after m e = cond (allowed m.day e) (cond (m.count == m.capacity) m (with_taken m e)) m
 
+-- what memory that was lent to the book holds afterwards: an entry taken is stored in it, as the one after so many, and a
+-- refused entry leaves it as it was
+abbrev pub memory_after : {M : Type 0} → (M → ℕ → Entry → M) → Ledger → Entry → M → M
+memory_after with_stored m e memory = cond (is_ok (take_answer m e)) (with_stored memory m.count e) memory
+
 -- series 0 to 31 and windows 1 to 13
 abbrev pub in_range : ℕ → ℕ → Bool
 in_range s w = nat_le s 31 && (nat_le 1 w && nat_le w 13)
 
--- what holds of every book
+-- what holds of every book; one that has taken no entry has nothing last and sums of 0
 pub record Lawful (m : Ledger) : Type 0 where
   pub lawful_day : is_lawful_day m.day ≡ true
   pub most : m.capacity ≤ 30000
   pub room : m.count ≤ m.capacity
   pub bounds : (s w : ℕ) → bounded m.count (values (m.figures s w)) ≡ true
   pub outside : (s w : ℕ) → in_range s w ≡ false → m.figures s w ≡ empty
+  pub none_taken : m.count ≡ 0 → (s w : ℕ) → m.figures s w ≡ empty

@@ -8,3 +8,8 @@ pub mod Ledgers
 pub mod Records
 pub mod Takings
 pub mod Evidence
+pub mod Orders
+pub mod Limits
+pub mod Ranges
+pub mod Growth
+pub mod LawfulRecords

@@ -1,6 +1,8 @@
 -- Taking one entry after the other.
-use Rattle.std.specs.Prelude.{cond, List, [], ◌∷◌, is_ok, fold}
-use Rattle.book.specs.Ledgers.{Ledger, take_after, take_answer}
+use Rattle.std.specs.Prelude.{◌≡◌, ℕ, cond, List, [], ◌∷◌, length, is_ok, fold}
+use Rattle.book.specs.Evidence.{Evidence}
+use Rattle.book.specs.Ledgers.{Ledger, take_after, take_answer, fresh}
+use Rattle.book.specs.declared.days.Day.{Day}
 use Rattle.book.specs.declared.entries.Entry.{Entry}
 
 abbrev pub after_all : Ledger → List Entry → Ledger
@@ -10,3 +12,9 @@ after_all m es = fold take_after m es
 abbrev pub entries_taken : Ledger → List Entry → List Entry
 entries_taken m [] = []
 entries_taken m (e ∷ es) = cond (is_ok (take_answer m e)) (e ∷ entries_taken (take_after m e) es) (entries_taken (take_after m e) es)
+
+-- a book was handed entries, one after the other, and took so many. The figures of one that was new are evidence of those taken
+pub record Handed (before then : Ledger) (es : List Entry) (taken : ℕ) : Type 0 where
+  pub count : taken ≡ length (entries_taken before es)
+  pub after : then ≡ after_all before es
+  pub evidence : (d : Day) (k : ℕ) → before ≡ fresh d k → Evidence then (entries_taken before es)

@@ -1,8 +1,8 @@
 // A book, known by its meaning alone.
-ghost use Rattle.std.specs.Prelude.{◌≡◌, ◌≤◌, true};
-ghost use Rattle.book.specs.Bounds.{bounded};
+ghost use Rattle.std.specs.Prelude.{◌≡◌, ℕ};
 ghost use Rattle.book.specs.Figures.{values};
-ghost use Rattle.book.specs.Ledgers.{Ledger, Lawful, take_after, take_answer, fresh, admission};
+ghost use Rattle.book.specs.Ledgers.{Ledger, Lawful, memory_after, take_after, take_answer, fresh, admission};
+ghost use Rattle.book.specs.declared.entries.Entry.{Entry};
 
 use crate::days::Day;
 use crate::entries::{Entry, is_allowed};
@@ -32,23 +32,28 @@ pub trait Book {
     // The day record, the capacity, how many entries were taken, and the figures of every series and window.
     ghost meaning: { Self → Ledger };
 
+    // The memory that was lent to the book, and the same with an entry stored as the one after so many. It is `Unit` for a make
+    // that is lent none.
+    ghost Memory: { Type 0 };
+
+    ghost memory: { Self → Memory };
+
+    ghost with_stored: { Memory → ℕ → Entry → Memory };
+
     /// Takes an entry, or refuses it as `admit` does and changes nothing.
     fn take(&mut self, entry: Entry) -> Result<(), BookFault>
         ensures answer { result ≡ take_answer (meaning self.old) entry }
-        ensures after { meaning self.new ≡ take_after (meaning self.old) entry };
+        ensures after { meaning self.new ≡ take_after (meaning self.old) entry }
+        ensures memory { memory self.new ≡ memory_after with_stored (meaning self.old) entry (memory self.old) };
 
     /// The figures of a series and a window; empty outside series 0 to 31 and windows 1 to 13. Raw numbers, since a narrower
     /// type would ask more of callers.
     fn figures(&self, series: u8, window: u8) -> Values
-        ensures value { result ≡ values ((meaning self.now).figures series window) }
-        ensures bounds { bounded (meaning self.now).count result ≡ true }
-        ensures few { (meaning self.now).count ≤ 30000 };
+        ensures { result ≡ values ((meaning self.now).figures series window) };
 
     /// The day record.
-    // What holds of every book is a clause here, where a caller meets it: a law beside it would say the same twice.
     fn day(&self) -> Day
-        ensures value { result ≡ (meaning self.now).day }
-        ensures lawful { Lawful (meaning self.now) };
+        ensures { result ≡ (meaning self.now).day };
 
     /// How many entries the book takes in all: at most 30,000.
     fn capacity(&self) -> u16
@@ -57,11 +62,16 @@ pub trait Book {
     /// How many entries the book has taken.
     fn count(&self) -> u16
         ensures { result ≡ (meaning self.now).count };
+
+    // Every book is of a lawful day, takes no more entries than it has places, and keeps its figures within the bounds of the
+    // number of entries; one that has taken none has empty figures.
+    ghost lawful: { (book : Self) → Lawful (meaning book) };
 }
 
 /// A book that can be begun anew: whoever lends it need not know the day before the day record comes in.
 pub trait Reusable: Book {
     /// Begins the day with an empty book, of as many places as before.
     fn begin(&mut self, day: LawfulDay)
-        ensures { Self.meaning self.new ≡ fresh day (Self.meaning self.old).capacity };
+        ensures after { Self.meaning self.new ≡ fresh day (Self.meaning self.old).capacity }
+        ensures memory { Self.memory self.new ≡ Self.memory self.old };
 }

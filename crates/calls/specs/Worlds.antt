@@ -2,7 +2,8 @@
 use Rattle.std.specs.Prelude.{ℕ, Bool, ℤ, is_ok, Ok, Err, Result}
 use Rattle.book.specs.Ledgers.{Ledger, fresh}
 use Rattle.book.specs.declared.days.Day.{Day}
-use Rattle.house.specs.Calls.{State, bell_after, bell_answer, entry_after, entry_answer, list_after, list_answer, new_state, ruling_after, ruling_answer, theory_after, theory_answer, ok_with}
+use Rattle.book.specs.declared.entries.Entry.{Entry}
+use Rattle.house.specs.Calls.{State, bell_after, bell_answer, entry_after, entry_answer, list_after, list_answer, moved, new_state, ruling_after, ruling_answer, theory_after, theory_answer, ok_with}
 use Rattle.house.specs.Houses.{state}
 use Rattle.house.specs.Questions.{settle_answer}
 use Rattle.house.specs.declared.answers.Settlement.{Settlement}
@@ -53,6 +54,16 @@ after_call ladders lawful (Enter e) w = record { state = w.state; book = entry_a
 after_call ladders lawful (SetTheory n value) w = record { state = theory_after n value w.state; book = w.book }
 after_call ladders lawful (SetRuling n value first) w = record { state = ruling_after n value first w.state; book = w.book }
 after_call ladders lawful (Settle n edition) w = w
+
+-- what memory that was lent to the book holds: an entry taken is stored in it, as the one after so many; no other call changes it
+abbrev pub memory_after_call : {M : Type 0} → (M → ℕ → Entry → M) → (ℕ → ℤ → Bool) → Call → World → M → M
+memory_after_call with_stored lawful (ListCall t) w memory = memory
+memory_after_call with_stored lawful (Ring b) w memory = memory
+memory_after_call with_stored lawful (Enter e) w memory =
+    moved (entry_answer lawful w.book e w.state) (λ _. with_stored memory w.book.count e) memory
+memory_after_call with_stored lawful (SetTheory n value) w memory = memory
+memory_after_call with_stored lawful (SetRuling n value first) w memory = memory
+memory_after_call with_stored lawful (Settle n edition) w memory = memory
 
 abbrev pub is_taken : ℕ → (ℕ → ℤ → Bool) → Call → World → Bool
 is_taken ladders lawful c w = is_ok (reply ladders lawful c w)

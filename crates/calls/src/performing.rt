@@ -1,7 +1,7 @@
 // One call made on a house and its book.
 ghost use Rattle.std.specs.Prelude.{◌≡◌, OnErr};
 ghost use Rattle.house.specs.Houses.{set_of};
-ghost use Rattle.calls.specs.Worlds.{after_call, reply, world};
+ghost use Rattle.calls.specs.Worlds.{after_call, memory_after_call, reply, world};
 
 use crate::call::{Call, Reply};
 use book::books::Book;
@@ -23,6 +23,8 @@ pub fn perform<L: LadderSet, B: Book>(
         world house.new (B.meaning book.new)
         ≡ after_call (L.size (set_of house.old)) (L.lawful (set_of house.old)) call.now before }
     ensures set { set_of house.new ≡ set_of house.old }
+    ensures memory { let before = world house.old (B.meaning book.old) in
+        B.memory book.new ≡ memory_after_call B.with_stored (L.lawful (set_of house.old)) call.now before (B.memory book.old) }
     ensures refused { OnErr result (world house.new (B.meaning book.new) ≡ world house.old (B.meaning book.old)) }
 {
     // A match, and no table of functions: the calls are closed, and have different parts.

@@ -1,5 +1,5 @@
 -- Calls that met their demands, and calls that did not.
-use Rattle.std.proofs.Common.{◌≡◌, ℕ, Bool, true, false, ℤ, is_ok, Ok, Err, Result, sym, refl, ap, ◌∙◌, ⊎_elim, arith}
+use Rattle.std.proofs.Common.{◌≡◌, ℕ, Bool, true, false, cond, ℤ, is_ok, Ok, Err, Result, sym, refl, ap, ◌∙◌, ⊎_elim, arith}
 use Rattle.std.proofs.lemmas.Bool.{both_ways, cond-true}
 use Rattle.book.specs.Ledgers.{Ledger, take_after, take_answer, with_taken}
 use Rattle.book.specs.declared.days.Day.{Day}
@@ -48,3 +48,12 @@ passed_on lawful d e s m day ok =
     let same : Ok tt ≡ entry_passed lawful m.day e s = ok ∙ ap (λ k. entry_passed lawful k e s) day in
     let answers : by_book (take_answer m e) ≡ entry_answer lawful m e s = ap (λ r. then r (by_book (take_answer m e))) same in
     (answers, book_moves m e ∙ ap (λ r. moved r (λ _. with_taken m e) m) answers)
+
+-- and memory that was lent to the book has the entry stored where the book takes it, and else is as it was
+pub memory_moves : {M : Type 0} (lawful : ℕ → ℤ → Bool) (d : Day) (e : Entry) (s : State) (m : Ledger) (with_entry memory : M) → d ≡ m.day → Ok tt ≡ entry_passed lawful d e s → cond (is_ok (take_answer m e)) with_entry memory ≡ moved (entry_answer lawful m e s) (λ _. with_entry) memory
+memory_moves lawful d e s m with_entry memory day ok =
+    by_answer (take_answer m e) ∙ ap (λ r. moved r (λ _. with_entry) memory) (passed_on lawful d e s m day ok).0
+  where
+    by_answer : (r : Result Unit BookFault) → cond (is_ok r) with_entry memory ≡ moved (by_book r) (λ _. with_entry) memory
+    by_answer (Ok u) = refl
+    by_answer (Err f) = refl

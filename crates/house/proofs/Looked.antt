@@ -7,8 +7,8 @@ use Rattle.book.specs.Bounds.{bounded, spread_if}
 use Rattle.book.specs.Entries.{price_lawful, side_lawful, spread_lawful}
 use Rattle.book.specs.declared.figures.Sides.{Sides}
 use Rattle.book.specs.declared.figures.Values.{Values}
-use Rattle.book.proofs.Growth.{parts}
-use Rattle.book.proofs.Limits.{price_bound}
+use Rattle.book.specs.Growth.{parts}
+use Rattle.book.specs.Limits.{price_bound}
 use Rattle.ladders.specs.Fractions.{ceiling, floor, inside}
 use Rattle.ladders.specs.Prices.{within}
 use Rattle.ladders.specs.Rounding.{Above, AnswersWhere, Near}

@@ -2,7 +2,7 @@
 #![tactic(auto, using(crate::proofs::Slots::supplied))]
 
 ghost use Rattle.std.specs.Prelude.{◌≡◌, IfErr, true, nat_lt};
-ghost use Rattle.house.specs.Calls.{bell_after, bell_answer, entry_after, entry_answer, entry_check, entry_passed, kind_on_ladder, list_after, list_answer, listed_terms, may_have, may_rule, new_state, ruling_after, ruling_answer, ruling_of, side_on_ladder, theory_after, theory_answer};
+ghost use Rattle.house.specs.Calls.{bell_after, bell_answer, entry_after, entry_answer, entry_check, entry_passed, kind_on_ladder, list_after, list_answer, listed_terms, may_have, may_rule, moved, new_state, ruling_after, ruling_answer, ruling_of, side_on_ladder, theory_after, theory_answer};
 ghost use Rattle.house.specs.Series.{lawful_ruling};
 ghost use Rattle.house.specs.Houses.{set_of, state};
 
@@ -166,6 +166,9 @@ impl<L: LadderSet> House<L> {
     pub fn enter<B: Book>(&self, book: &mut B, entry: Entry) -> Result<(), HouseFault>
         ensures answer { result ≡ entry_answer (L.lawful (set_of self.now)) (B.meaning book.old) entry (state self.now) }
         ensures after { B.meaning book.new ≡ entry_after (L.lawful (set_of self.now)) entry (state self.now) (B.meaning book.old) }
+        ensures memory { B.memory book.new
+            ≡ moved (entry_answer (L.lawful (set_of self.now)) (B.meaning book.old) entry (state self.now))
+            (λ _. B.with_stored (B.memory book.old) (B.meaning book.old).count entry) (B.memory book.old) }
         ensures refused { IfErr result (λ _. B.meaning book.new ≡ B.meaning book.old) }
     {
         self.pass(&book.day(), &entry)?;

@@ -14,7 +14,7 @@ use Rattle.book.specs.declared.entries.Kind.TheVariants.{Trade, Auction, Leg, Sp
 use Rattle.book.specs.declared.figures.Figures.{Figures}
 use Rattle.book.specs.declared.figures.Last.{Last}
 use Rattle.book.specs.declared.figures.Values.{Values}
-use Rattle.book.proofs.Ranges.{allowed_kind}
+use Rattle.book.specs.Ranges.{allowed_kind}
 use Rattle.runs.specs.Added.{Among, is_addition}
 use Rattle.runs.specs.Relations.{Relation}
 use Rattle.runs.specs.PathEntries.{entries_on, on_path}

@@ -11,9 +11,9 @@ use Rattle.book.specs.Records.{every, figures_of}
 use Rattle.book.specs.Windows.{edges}
 use Rattle.book.specs.declared.days.Day.{Day}
 use Rattle.book.specs.declared.entries.Entry.{Entry}
-use Rattle.book.proofs.Folds.{bounded_from}
-use Rattle.book.proofs.Growth.{bounded_empty}
-use Rattle.book.proofs.Ranges.{allowed_kind}
+use Rattle.book.specs.LawfulRecords.{bounded_from}
+use Rattle.book.specs.Growth.{bounded_empty}
+use Rattle.book.specs.Ranges.{allowed_kind}
 use Rattle.ladders.specs.Rounding.{Near}
 use Rattle.rows.specs.declared.places.Edition.{Edition}
 use Rattle.house.specs.Answers.{Answer, answer_at, path_answer, references, station_of}
@@ -31,7 +31,7 @@ use Rattle.calls.specs.Worlds.{World, new_world}
 use Rattle.calls.specs.declared.call.Call.{Call}
 use Rattle.runs.specs.Added.{Among}
 use Rattle.runs.specs.PathEntries.{entries_on, on_path}
-use Rattle.runs.specs.Laws.{Alike, Comparable, Law, Laws, MayAskAfter, NoLater, NotLower, Outcome, RunMeaning, answer_in, calls_taken_in, end_world, new_run, path_of, run_of}
+use Rattle.runs.specs.Laws.{Alike, Comparable, EndTold, Law, Laws, MayAskAfter, NoLater, NotLower, Outcome, RunMeaning, answer_in, calls_taken_in, end_world, new_run, path_of, run_of}
 use Rattle.runs.specs.Raised.{EntryRaised, SeriesRaised}
 use Rattle.runs.specs.Relations.{Relation}
 use Rattle.runs.specs.ByCalls.{entries, series_after}
@@ -69,6 +69,10 @@ module _ (d : Day) (k : ℕ) (xs : List Call) (w : World) (told : Told d k xs w)
   all_lawful : (ns : List ℕ) → AllByRecursion StationLawful (map (station_by_calls d xs) ns)
   all_lawful [] = tt
   all_lawful (n ∷ ns) = (station_lawful n, all_lawful ns)
+
+-- the end of a run that began so is told
+pub end_told : (d : Day) (k : ℕ) (r : RunMeaning) → r.start ≡ new_world d k → EndTold d k r
+end_told d k r new = told_from_new d k r.ladders r.lawful r.calls r.start (end_world r) refl new
 
 -- ---- along one path
 
@@ -145,8 +149,8 @@ module _ (a b : RunMeaning) (n : ℤ) (ed : Edition) where
       let f = station_by_calls d xs in
       let g = station_by_calls d ys in
       let path = path_of xs k in
-      let one = told_from_new d c.capacity a.ladders a.lawful a.calls a.start (end_world a) refl c.new in
-      let other = told_from_new d c.other_capacity b.ladders b.lawful b.calls b.start (end_world b) refl c.other_new in
+      let one = end_told d c.capacity a c.new in
+      let other = end_told d c.other_capacity b c.other_new in
       let paired = pairs (λ q. OnSeries (series_after xs q) (series_after ys q)) OnStations f g path path
       (λ q s on. stations d path xs ys q one.book.lawful other.book.lawful e.evidence on s)
       e.series (each_on_path path path (λ q h. h)) in

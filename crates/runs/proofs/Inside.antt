@@ -7,7 +7,7 @@ use Rattle.std.proofs.lemmas.Bool.{and_from}
 use Rattle.book.specs.Bounds.{bounded}
 use Rattle.book.specs.Entries.{price_lawful}
 use Rattle.book.specs.declared.figures.Values.{Values}
-use Rattle.book.proofs.Growth.{parts}
+use Rattle.book.specs.Growth.{parts}
 use Rattle.ladders.specs.Fractions.{inside}
 use Rattle.ladders.specs.Orders.{within_range}
 

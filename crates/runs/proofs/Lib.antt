@@ -7,4 +7,5 @@ pub mod RaisedAnswers
 pub mod MoreAnswers
 pub mod OneCall
 pub mod ToldRuns
+mod StoredEntries
 pub mod Compared

@@ -6,7 +6,7 @@ use Rattle.std.proofs.lemmas.Int.{ints}
 use Rattle.std.proofs.lemmas.Bool.{lt-ltb, ltb-true}
 use Rattle.book.specs.Bounds.{bounded}
 use Rattle.book.specs.declared.figures.Values.{Values}
-use Rattle.book.proofs.Growth.{parts}
+use Rattle.book.specs.Growth.{parts}
 use Rattle.ladders.specs.Fractions.{inside}
 use Rattle.ladders.specs.Values.{nearest_of, nearest_price}
 use Rattle.rows.specs.declared.places.Edition.{Edition}

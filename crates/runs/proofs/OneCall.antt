@@ -6,6 +6,7 @@ use Rattle.std.proofs.lemmas.List.{append-nil, get_or_append_left, get_or_past, 
 use Rattle.std.proofs.lemmas.List.Sums.{fold_push}
 use Rattle.std.proofs.lemmas.Bool.{and_parts, cases_eq, cases_lt, cond-false, cond-true, eq-eqb, ltb-true, ne_eqb, true≢false}
 use Rattle.book.specs.Entries.{allowed, side_lawful}
+use Rattle.book.specs.Evidence.{Evidence}
 use Rattle.book.specs.Figures.{is_series}
 use Rattle.book.specs.Ledgers.{Ledger, take_answer, with_taken}
 use Rattle.book.specs.Records.{every, recorded}
@@ -13,6 +14,7 @@ use Rattle.book.specs.declared.days.Day.{Day}
 use Rattle.book.specs.declared.entries.Entry.{Entry}
 use Rattle.book.specs.declared.faults.BookFault.{BookFault}
 use Rattle.book.proofs.Folds.{every_push, recorded_push}
+use Rattle.book.proofs.RecordedEvidence.{evidence}
 use Rattle.book.proofs.Taking.{admitted}
 use Rattle.rows.specs.Families.{family_of}
 use Rattle.house.specs.Calls.{State, by_book, demand, entry_after, entry_answer, entry_passed, listed_terms, may_rule, moved, ruling_after, ruling_answer, ruling_of, rung, then, theory_after, theory_answer, ok_with, with_ruling, with_theory}
@@ -37,11 +39,15 @@ use Rattle.calls.specs.declared.call.Call.{Call}
 use Rattle.calls.specs.declared.call.Call.TheVariants.{List as ListCall, Ring, Enter, SetTheory, SetRuling, Settle}
 use Rattle.calls.proofs.Refusals.{ok_value, listed_ok, ok_with_ok}
 
+-- figures of the entries taken are evidence of them
+evidence_told : (d : Day) (k : ℕ) (es : List Entry) (m : Ledger) → m ≡ recorded d k es → Evidence m es
+evidence_told d k es m records = subst (λ (l : Ledger). Evidence l es) (sym records) (evidence d k es)
+
 pub told_new : (d : Day) (k : ℕ) → Told d k [] (new_world d k)
 told_new d k = record {
   phase = refl;
   roll = record { series = λ n. refl; count = refl; lawful = λ n. refl; unused = λ n h. refl };
-  book = record { records = refl; lawful = refl; room = omega arith };
+  book = record { records = refl; lawful = refl; room = omega arith; evidence = evidence d k [] };
 }
 
 -- ---- readings of one call more
@@ -96,6 +102,7 @@ book_stays d k xs c m none t =
       records = t.records ∙ ap (recorded d k) same;
       lawful = ap (every (allowed d)) (sym same) ∙ t.lawful;
       room = subst (λ es. length es ≤ k) same t.room;
+      evidence = subst (Evidence m) same t.evidence;
     }
 
 -- ---- a series placed at a number
@@ -313,14 +320,17 @@ told_entry d k lawful xs e s m ok t =
     let more = entries_push xs (Enter e) in
     let long = length_push (entries xs) e in
     let few : length (entries xs ++ (e ∷ [])) ≤ k = omega arith in
+    let records = ap (λ a. moved a (λ _. with_taken m e) m) (ok_value (entry_answer lawful m e s) ok).1
+    ∙ ap (λ l. with_taken l e) t.records
+    ∙ sym (recorded_push d k (entries xs) e)
+    ∙ ap (recorded d k) (sym more)
+    in
     record {
-      records = ap (λ a. moved a (λ _. with_taken m e) m) (ok_value (entry_answer lawful m e s) ok).1
-          ∙ ap (λ l. with_taken l e) t.records
-          ∙ sym (recorded_push d k (entries xs) e)
-          ∙ ap (recorded d k) (sym more);
+      records = records;
       lawful = ap (every (allowed d)) more ∙ every_push (allowed d) (entries xs) e t.lawful
           (ap (λ y. allowed y e) (sym day) ∙ taken.lawful);
       room = subst (λ es. length es ≤ k) (sym more) few;
+      evidence = evidence_told d k (entries (xs ++ (Enter e ∷ []))) (entry_after lawful e s m) records;
     }
 
 -- ---- any call taken

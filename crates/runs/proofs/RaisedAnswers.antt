@@ -8,7 +8,7 @@ use Rattle.book.specs.Bounds.{bounded, sides_if}
 use Rattle.book.specs.Entries.{side_lawful}
 use Rattle.book.specs.declared.figures.Sides.{Sides}
 use Rattle.book.specs.declared.figures.Values.{Values}
-use Rattle.book.proofs.Growth.{parts}
+use Rattle.book.specs.Growth.{parts}
 use Rattle.house.proofs.Looked.{series_parts}
 use Rattle.ladders.specs.Fractions.{inside, floor, ceiling}
 use Rattle.ladders.specs.Prices.{within}

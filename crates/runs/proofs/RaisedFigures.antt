@@ -17,7 +17,7 @@ use Rattle.book.specs.declared.figures.Figures.{Figures}
 use Rattle.book.specs.declared.figures.Last.{Last}
 use Rattle.book.specs.declared.figures.Sides.{Sides}
 use Rattle.book.specs.declared.figures.Values.{Values}
-use Rattle.book.proofs.Ranges.{allowed_kind}
+use Rattle.book.specs.Ranges.{allowed_kind}
 use Rattle.runs.specs.PathEntries.{entries_on, on_path}
 use Rattle.runs.specs.Raised.{EntryRaised, KindBy}
 use Rattle.runs.specs.Relations.{Matched, Relation}

@@ -17,6 +17,8 @@ use Rattle.runs.specs.Added.{Among}
 use Rattle.runs.specs.PathEntries.{entries_on}
 use Rattle.runs.specs.Raised.{EntryRaised, SeriesRaised}
 use Rattle.runs.specs.Relations.{Relation}
+use Rattle.runs.specs.Stored.{with_all_stored}
+use Rattle.runs.specs.Told.{Told}
 use Rattle.runs.specs.ByCalls.{entries, terms_listed, phase_after, series_after}
 use Rattle.calls.specs.Worlds.{World, new_world, world}
 use Rattle.runs.specs.Runs.{after_run, calls_taken}
@@ -46,6 +48,14 @@ end_world r = after_run r.ladders r.lawful r.calls r.start
 
 abbrev pub calls_taken_in : RunMeaning → List Call
 calls_taken_in r = calls_taken r.ladders r.lawful r.calls r.start
+
+-- of a run from a new house and an empty book of a day: what stands in its end is told by the calls taken
+abbrev pub EndTold : Day → ℕ → RunMeaning → Type 0
+EndTold d k r = Told d k (calls_taken_in r) (end_world r)
+
+-- what memory that was lent to the book then holds: the entries taken, stored in it one after the other
+abbrev pub end_memory : {M : Type 0} → (M → ℕ → Entry → M) → RunMeaning → M → M
+end_memory with_stored r memory = with_all_stored with_stored r.start.book.count (entries (calls_taken_in r)) memory
 
 -- what a house answers to a question
 abbrev pub Outcome : Type 0

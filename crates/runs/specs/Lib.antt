@@ -5,4 +5,5 @@ pub mod Added
 pub mod Runs
 pub mod ByCalls
 pub mod Told
+pub mod Stored
 pub mod Laws

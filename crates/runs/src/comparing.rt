@@ -1,8 +1,11 @@
 // Two runs, whatever the makes of the ladder sets and of the books, and the same question asked after each.
-ghost use Rattle.std.specs.Prelude.{◌≡◌, min, length};
+ghost use Rattle.std.specs.Prelude.{◌≡◌, ℕ, min, length};
+ghost use Rattle.book.specs.declared.days.Day.{Day};
 ghost use Rattle.house.specs.Houses.{set_of};
-ghost use Rattle.runs.specs.Laws.{Alike, Comparable, Laws, answer_in, end_world, new_run, run_in};
-ghost use Rattle.calls.specs.Worlds.{world};
+ghost use Rattle.calls.specs.Worlds.{new_world, world};
+ghost use Rattle.runs.specs.ByCalls.{entries};
+ghost use Rattle.runs.specs.Laws.{Alike, Comparable, EndTold, Laws, answer_in, calls_taken_in, end_memory, end_world, new_run, run_in};
+ghost use Rattle.runs.specs.Stored.{filled};
 
 use crate::running::run;
 use board::boards::Board;
@@ -34,6 +37,8 @@ impl<L: LadderSet, B: Book> Run<'_, L, B> {
         ensures answer { result ≡ answer_in (run_in L.size L.lawful B.meaning self.entry) series edition }
         ensures after { world self.exit.0.now (B.meaning self.exit.1.0.now)
             ≡ end_world (run_in L.size L.lawful B.meaning self.entry) }
+        ensures memory { B.memory self.exit.1.0.now
+            ≡ end_memory B.with_stored (run_in L.size L.lawful B.meaning self.entry) (B.memory self.entry.book.now) }
         ensures set { set_of self.exit.0.now ≡ set_of self.entry.house.now }
     {
         let Run { house, book, calls } = self;
@@ -62,6 +67,10 @@ fn ask_both<K: LadderSet, J: Book, L: LadderSet, B: Book>(
         ≡ end_world (run_in K.size K.lawful J.meaning first.entry) }
     ensures second_after { world second.exit.0.now (B.meaning second.exit.1.0.now)
         ≡ end_world (run_in L.size L.lawful B.meaning second.entry) }
+    ensures first_memory { J.memory first.exit.1.0.now
+        ≡ end_memory J.with_stored (run_in K.size K.lawful J.meaning first.entry) (J.memory first.entry.book.now) }
+    ensures second_memory { B.memory second.exit.1.0.now
+        ≡ end_memory B.with_stored (run_in L.size L.lawful B.meaning second.entry) (B.memory second.entry.book.now) }
     ensures first_set { set_of first.exit.0.now ≡ set_of first.entry.house.now }
     ensures second_set { set_of second.exit.0.now ≡ set_of second.entry.house.now }
 {
@@ -89,10 +98,18 @@ pub fn compare<K: LadderSet, J: Book, L: LadderSet, B: Book>(
     ensures laws { let first_run = run_in K.size K.lawful J.meaning first.entry in
         let second_run = run_in L.size L.lawful B.meaning second.entry in
         Laws Comparable first_run second_run series edition result.0 result.1 }
+    ensures told { let first_run = run_in K.size K.lawful J.meaning first.entry in
+        let second_run = run_in L.size L.lawful B.meaning second.entry in
+        (d : Day) (k : ℕ) → (first_run.start ≡ new_world d k → EndTold d k first_run)
+        × (second_run.start ≡ new_world d k → EndTold d k second_run) }
     ensures first_after { world first.exit.0.now (J.meaning first.exit.1.0.now)
         ≡ end_world (run_in K.size K.lawful J.meaning first.entry) }
     ensures second_after { world second.exit.0.now (B.meaning second.exit.1.0.now)
         ≡ end_world (run_in L.size L.lawful B.meaning second.entry) }
+    ensures first_memory { J.memory first.exit.1.0.now
+        ≡ end_memory J.with_stored (run_in K.size K.lawful J.meaning first.entry) (J.memory first.entry.book.now) }
+    ensures second_memory { B.memory second.exit.1.0.now
+        ≡ end_memory B.with_stored (run_in L.size L.lawful B.meaning second.entry) (B.memory second.entry.book.now) }
     ensures first_set { set_of first.exit.0.now ≡ set_of first.entry.house.now }
     ensures second_set { set_of second.exit.0.now ≡ set_of second.entry.house.now }
 {
@@ -116,6 +133,11 @@ pub fn compare_makes<K: LadderSet + Drop, L: LadderSet + Drop>(
     ensures laws { let first_run = new_run K.size K.lawful set day (min capacity 30000) calls.now in
         let second_run = new_run L.size L.lawful other_set day (min (length slots.old) 30000) other_calls.now in
         Laws Alike first_run second_run series edition result.0 result.1 }
+    ensures told { let places = min (length slots.old) 30000 in
+        EndTold day (min capacity 30000) (new_run K.size K.lawful set day (min capacity 30000) calls.now)
+        × EndTold day places (new_run L.size L.lawful other_set day places other_calls.now) }
+    ensures slots { let second_run = new_run L.size L.lawful other_set day (min (length slots.old) 30000) other_calls.now in
+        slots.new ≡ filled (entries (calls_taken_in second_run)) slots.old }
 {
     let mut house = House::new(set);
     let mut board = Board::new(day, capacity);

@@ -1,22 +1,16 @@
 -- What a tape knows of the entries that it stores: the first n of its places.
 use Rattle.std.proofs.Common.{◌≡◌, ℕ, ◌+◌, ◌<◌, ◌≤◌, min, true, List, length, take, set, Ok, sym, ap, ◌∙◌, arith}
 use Rattle.std.proofs.lemmas.List.{length-take-le, take_more_set, length-set}
-use Rattle.book.specs.Days.{is_lawful_day}
 use Rattle.book.specs.Entries.{allowed}
-use Rattle.book.specs.Ledgers.{Lawful, take_after, with_taken, admission}
+use Rattle.book.specs.Ledgers.{take_after, with_taken, admission}
 use Rattle.book.specs.Records.{every, recorded}
 use Rattle.book.specs.declared.days.Day.{Day}
 use Rattle.book.specs.declared.entries.Entry.{Entry}
-use Rattle.book.proofs.Folds.{every_push, lawful_record, recorded_push}
+use Rattle.book.proofs.Folds.{every_push, recorded_push}
 use Rattle.book.proofs.Taking.{admitted, same_reply}
 
 pub few_stored : (slots : List Entry) (n : ℕ) → n ≤ length slots → n ≤ 30000 → length (take n slots) ≤ 30000
 few_stored slots n held few = let count = length-take-le n slots held in omega arith
-
-pub tape_is_lawful : (d : Day) (slots : List Entry) (n : ℕ) → is_lawful_day d ≡ true → n ≤ length slots → n ≤ 30000 → every (allowed d) (take n slots) ≡ true → Lawful (recorded d (min (length slots) 30000) (take n slots))
-tape_is_lawful d slots n l held few h =
-    let count = length-take-le n slots held in
-    lawful_record d (min (length slots) 30000) (take n slots) l (omega arith) (omega arith) h
 
 stored_more : (d : Day) (slots : List Entry) (n : ℕ) (e : Entry) → n < length slots → recorded d (min (length (set slots n e)) 30000) (take (n + 1) (set slots n e)) ≡ with_taken (recorded d (min (length slots) 30000) (take n slots)) e
 stored_more d slots n e h =

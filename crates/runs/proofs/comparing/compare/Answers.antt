@@ -3,7 +3,7 @@ use Rattle.std.proofs.Math.Path.{subst₂}
 use Rattle.std.proofs.lemmas.Int.{to_z-of_z}
 use Rattle.house.specs.Houses.{set_of}
 use Rattle.runs.specs.Laws.{Comparable, Laws, Outcome, answer_in, run_in}
-use Rattle.runs.proofs.Compared.{laws}
+use Rattle.runs.proofs.Compared.{end_told, laws}
 use Rattle.runs.proofs.comparing.compare.Goals as goal
 
 pub returns-clause-laws : goal.returns-clause-laws
@@ -18,3 +18,10 @@ returns-clause-laws g c =
     let other = subst (λ z. c.ask_both.result.1 ≡ answer_in b z ed) plain c.ask_both.ensures.other in
     subst₂ (λ (p q : Outcome). Laws Comparable a b n ed p q) (sym one) (sym other)
     (laws a b n ed (g.met.K.LadderSet.dense (set_of x.first.house.now)))
+
+pub returns-clause-told : goal.returns-clause-told
+returns-clause-told g c =
+    let x = c.args in
+    let a = run_in g.K.LadderSet.size g.K.LadderSet.lawful g.J.Book.meaning x.first in
+    let b = run_in g.L.LadderSet.size g.L.LadderSet.lawful g.B.Book.meaning x.second in
+    λ d k. (end_told d k a, end_told d k b)

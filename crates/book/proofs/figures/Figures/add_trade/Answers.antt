@@ -1,7 +1,7 @@
 use Rattle.std.proofs.Common.{◌≡◌, ◌+ℤ◌, ap, ◌∙◌, arith, w32, w64, to_z, of_z}
 use Rattle.std.proofs.lemmas.Int.{ints, to_z-of_z}
 use Rattle.book.specs.Figures.{latest}
-use Rattle.book.proofs.Limits.{lots_bound, room_for}
+use Rattle.book.specs.Limits.{lots_bound, room_for}
 use Rattle.book.proofs.figures.Figures.add_trade.Goals as goal
 
 pub returns : goal.returns

@@ -1,4 +1,4 @@
-use Rattle.book.proofs.Folds.{sound_parts}
+use Rattle.book.specs.LawfulRecords.{sound_parts}
 use Rattle.book.proofs.figures.Figures.enter_sound.Goals as goal
 
 pub enter-requires-clause-kind : goal.enter-requires-clause-kind

@@ -6,7 +6,7 @@ use Rattle.book.specs.declared.entries.Entry.{Entry}
 use Rattle.book.specs.declared.faults.BookFault.{BookFault}
 use Rattle.book.proofs.Taking.{taken_or_refused}
 use Rattle.house.specs.Houses.{state}
-use Rattle.house.proofs.Demands.{passed_on}
+use Rattle.house.proofs.Demands.{memory_moves, passed_on}
 use Rattle.house.proofs.houses.House.enter.Goals as goal
 
 -- a book that refuses an entry is as it was
@@ -25,11 +25,27 @@ returns-in_err-take-clause-refused g c =
 pub returns-in_err-take-clause-after : goal.returns-in_err-take-clause-after
 returns-in_err-take-clause-after g c =
     let h = c.args.self.now in
-    let on = passed_on (g.L.LadderSet.lawful h.set) c.day.result c.args.entry (state h) (g.B.Book.meaning c.args.book.now) c.day.ensures.value c.in_ok-pass.ensures in
+    let on = passed_on (g.L.LadderSet.lawful h.set) c.day.result c.args.entry (state h) (g.B.Book.meaning c.args.book.now) c.day.ensures c.in_ok-pass.ensures in
     c.take.ensures.after ∙ on.1
+
+pub returns-in_err-take-clause-memory : goal.returns-in_err-take-clause-memory
+returns-in_err-take-clause-memory g c =
+    let h = c.args.self.now in
+    let m = g.B.Book.meaning c.args.book.now in
+    let memory = g.B.Book.memory c.args.book.now in
+    c.take.ensures.memory
+    ∙ memory_moves (g.L.LadderSet.lawful h.set) c.day.result c.args.entry (state h) m (g.B.Book.with_stored memory m.count c.args.entry) memory c.day.ensures c.in_ok-pass.ensures
 
 pub returns-clause-after : goal.returns-clause-after
 returns-clause-after g c =
     let h = c.args.self.now in
-    let on = passed_on (g.L.LadderSet.lawful h.set) c.day.result c.args.entry (state h) (g.B.Book.meaning c.args.book.now) c.day.ensures.value c.in_ok-pass.ensures in
+    let on = passed_on (g.L.LadderSet.lawful h.set) c.day.result c.args.entry (state h) (g.B.Book.meaning c.args.book.now) c.day.ensures c.in_ok-pass.ensures in
     c.take.ensures.after ∙ on.1
+
+pub returns-clause-memory : goal.returns-clause-memory
+returns-clause-memory g c =
+    let h = c.args.self.now in
+    let m = g.B.Book.meaning c.args.book.now in
+    let memory = g.B.Book.memory c.args.book.now in
+    c.take.ensures.memory
+    ∙ memory_moves (g.L.LadderSet.lawful h.set) c.day.result c.args.entry (state h) m (g.B.Book.with_stored memory m.count c.args.entry) memory c.day.ensures c.in_ok-pass.ensures

@@ -1,4 +1,5 @@
-use Rattle.std.proofs.Common.{sym, subst}
+use Rattle.std.proofs.Common.{sym, ap, ◌∙◌, subst}
+use Rattle.book.specs.Bounds.{bounded}
 use Rattle.house.specs.Answers.{price_of}
 use Rattle.house.specs.Reach.{InReach}
 use Rattle.house.proofs.Looked.{finds_reach}
@@ -8,5 +9,7 @@ pub returns-clause-reach : goal.returns-clause-reach
 returns-clause-reach g c =
     let a = c.args.self.now in
     let P = g.L.LadderSet.lawful a.set.now a.series.terms.ladder in
-    let near = finds_reach P (g.met.L.LadderSet.dense a.set.now a.series.terms.ladder) a.number (g.B.Book.meaning a.book.now).count (price_of a.reference) a.series c.figures-values.result c.args.place.step a.lawful a.reach c.figures-values.ensures.bounds in
+    let count = (g.B.Book.meaning a.book.now).count in
+    let bounds = ap (bounded count) c.figures-values.ensures ∙ (g.met.B.Book.lawful a.book.now).bounds a.number c.unwrap_or.result in
+    let near = finds_reach P (g.met.L.LadderSet.dense a.set.now a.series.terms.ladder) a.number count (price_of a.reference) a.series c.figures-values.result c.args.place.step a.lawful a.reach bounds in
     subst (InReach a.number) (sym c.find.ensures) near

@@ -13,8 +13,8 @@ use Rattle.book.specs.declared.entries.Kind.TheVariants.{Trade, Auction, Leg, Sp
 use Rattle.book.specs.declared.figures.Figures.{Figures}
 use Rattle.book.specs.declared.figures.Last.{Last}
 use Rattle.book.specs.declared.figures.Values.{Values}
-use Rattle.book.proofs.Limits.{worth_by_lots}
-use Rattle.book.proofs.Orders.{le_from, le_test}
+use Rattle.book.specs.Limits.{worth_by_lots}
+use Rattle.book.specs.Orders.{le_from, le_test}
 
 -- what holds of the old value and of the new one holds of the later
 later_of_both : {V : Type 0} (P : Option V → Bool) (o : Option (Last V)) (t : ℤ) (v : V) → P (unstamped o) ≡ true → P (Some v) ≡ true → P (unstamped (latest o t v)) ≡ true

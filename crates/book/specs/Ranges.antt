@@ -12,7 +12,7 @@ use Rattle.book.specs.Windows.{edges, holds, nothing, windows}
 use Rattle.book.specs.declared.days.Day.{Day}
 use Rattle.book.specs.declared.entries.Entry.{Entry}
 use Rattle.book.specs.declared.figures.Figures.{Figures}
-use Rattle.book.proofs.Orders.{le_from, le_test}
+use Rattle.book.specs.Orders.{le_from, le_test}
 
 pub allowed_kind : (d : Day) (e : Entry) → allowed d e ≡ true → kind_lawful e.kind ≡ true
 allowed_kind d e h =
