@@ -41,15 +41,10 @@ impl Board {
             count: 0,
         }
     }
-
-    /// How many bytes a board takes: at most 40 KiB.
-    pub fn size() -> usize
-        ensures value { result ≡ 33328 }
-        ensures most { result ≤ 40960 }
-    {
-        size_of::<Board>()
-    }
 }
+
+// A board takes at most 40 KiB.
+const _: () = prove!(size_of::<Board>() <= 40_960);
 
 impl Book for Board {
     ghost meaning = { λ b. tabled b.day b.capacity b.count b.table.cells };
