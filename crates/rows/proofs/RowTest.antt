@@ -1,11 +1,10 @@
 -- The rules of rows: one test of codes, computed over the whole table, and carried to each row.
 use Rattle.std.proofs.Common.{◌≡◌, ℕ, zero, suc, ◌+◌, ◌-◌, ◌*◌, ◌≤◌, Bool, true, false, not, ◌&&◌, eqb, leb, List, [], ◌∷◌, get_or, Some, None, Option, sym, refl, ap, ◌∙◌, arith}
-use Rattle.std.proofs.lemmas.Option.{none-some}
 use Rattle.std.specs.List.{list_all, list_any}
 use Rattle.std.proofs.lemmas.Bool.{and_parts, or_parts, not-true, leb-true, eq-eqb, eqb-true, true≢false, false≢true}
 use Rattle.rows.specs.Codes.{choice_number, code_at, codes_of, decoded, window_number}
 use Rattle.rows.specs.Families.{number}
-use Rattle.rows.specs.RowRules.{Fitting, PlaceLawful, RowLawful, looks}
+use Rattle.rows.specs.RowRules.{Fitting, RowLawful, looks}
 use Rattle.rows.specs.declared.families.Family.{Family}
 use Rattle.rows.specs.declared.places.Choice.{Choice}
 use Rattle.rows.specs.declared.places.Place.{Place}

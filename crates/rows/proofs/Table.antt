@@ -1,9 +1,8 @@
 -- The codes of the table stand for the rows in letters.
-use Rattle.std.proofs.Common.{◌≡◌, ℕ, zero, suc, ◌-◌, ◌≤◌, Bool, true, leb, List, [], ◌∷◌, length, map, get_or, Some, None, Option, sym, refl, ap, ◌∙◌, subst, arith}
+use Rattle.std.proofs.Common.{◌≡◌, ℕ, zero, suc, ◌≤◌, true, leb, List, [], ◌∷◌, length, map, get_or, Some, None, Option, sym, refl, ap, ◌∙◌, subst, arith}
 use Rattle.std.proofs.Math.ListN.{get_or-map}
 use Rattle.std.proofs.lemmas.Bool.{leb-true}
-use Rattle.rows.specs.Codes.{at, choice_number, code_at, codes_of, decoded}
-use Rattle.rows.specs.Families.{number}
+use Rattle.rows.specs.Codes.{at, code_at, codes_of, decoded}
 use Rattle.rows.specs.RowRules.{PlaceLawful, RowLawful}
 use Rattle.rows.specs.Rows.{row}
 use Rattle.rows.specs.declared.families.Family.{Family}
@@ -11,7 +10,6 @@ use Rattle.rows.specs.declared.families.Family.TheVariants.{LongBond, FollowingB
 use Rattle.rows.specs.declared.places.Choice.{Choice}
 use Rattle.rows.specs.declared.places.Choice.TheVariants.{Close, LastDay, QuarterEnd, Morning}
 use Rattle.rows.specs.declared.places.Place.{Place}
-use Rattle.rows.specs.declared.tables.TheConstants.{TABLE}
 use Rattle.rows.proofs.RowTest.{row_lawful}
 
 -- a row on so many places, the last of them empty
@@ -81,5 +79,5 @@ past_end f c k h = let short = row_short f c in past (row f c) k (omega (arith, 
 pub handed_out_lawful : (f : Family) (c : Choice) (handed : ℕ → Option Place) → ((k : ℕ) → handed k ≡ decoded (code_at f c k)) → RowLawful handed
 handed_out_lawful f c handed is = subst RowLawful (λ i k. sym (is k) i) (row_lawful f c)
 
-pub place_lawful : (f : Family) (c : Choice) (k : ℕ) (o : Option Place) → o ≡ at (row f c) k → PlaceLawful (at (row f c)) k o
-place_lawful f c k o is = subst (PlaceLawful (at (row f c)) k) (sym is) (handed_out_lawful f c (at (row f c)) (λ j. sym (codes_tell f c j)) k)
+pub place_lawful : (f : Family) (c : Choice) (k : ℕ) (o : Option Place) → o ≡ at (row f c) k → PlaceLawful (λ j. decoded (code_at f c j)) k o
+place_lawful f c k o is = subst (PlaceLawful (λ j. decoded (code_at f c j)) k) (codes_tell f c k ∙ sym is) (row_lawful f c k)

@@ -1,13 +1,14 @@
 // Which row serves a series.
 ghost use Rattle.std.specs.Prelude.{◌≡◌};
-ghost use Rattle.rows.specs.Chosen.{ElsewhereAside, chosen, minds_last_day, minds_quarter_end, unmarked};
+ghost use Rattle.rows.specs.Chosen.{ByMarks, chosen, has_last_day_row, has_quarter_end_row, unmarked};
+ghost use Rattle.rows.specs.Rows.{row};
 
 use crate::families::Family;
 use crate::places::{Choice, Edition, Marks};
 
 // Whether the family has a row of its own in the edition on its last day.
-fn minds_last_day(family: Family, edition: Edition) -> bool
-    ensures { result ≡ minds_last_day family edition }
+fn has_last_day_row(family: Family, edition: Edition) -> bool
+    ensures { result ≡ has_last_day_row family edition }
 {
     match edition {
         Edition::Close => matches!(family, Family::DeliveredCommodity | Family::DeliveredGrain),
@@ -16,8 +17,8 @@ fn minds_last_day(family: Family, edition: Edition) -> bool
 }
 
 // Whether the family has a row of its own in the edition at the end of a quarter.
-fn minds_quarter_end(family: Family, edition: Edition) -> bool
-    ensures { result ≡ minds_quarter_end family edition }
+fn has_quarter_end_row(family: Family, edition: Edition) -> bool
+    ensures { result ≡ has_quarter_end_row family edition }
 {
     match edition {
         Edition::Close => matches!(family, Family::FrontIndex | Family::NearOption),
@@ -38,11 +39,11 @@ fn unmarked(edition: Edition) -> Choice
 /// Which of the family's four rows settles a series with these marks in the edition.
 pub fn choose(family: Family, marks: Marks, edition: Edition) -> Choice
     ensures value { result ≡ chosen family marks edition }
-    ensures elsewhere { ElsewhereAside family marks edition result }
+    ensures marks { ByMarks family marks edition (row family result) }
 {
-    if marks.last_day && minds_last_day(family, edition) {
+    if marks.last_day && has_last_day_row(family, edition) {
         Choice::LastDay
-    } else if marks.quarter_end && minds_quarter_end(family, edition) {
+    } else if marks.quarter_end && has_quarter_end_row(family, edition) {
         Choice::QuarterEnd
     } else {
         unmarked(edition)

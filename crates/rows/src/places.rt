@@ -30,9 +30,9 @@ pub enum Choice {
 /// The two times of a day at which prices go out.
 #[derive(Clone, Copy, PartialEq, Eq, Debug)]
 pub enum Edition {
-    /// After the close of the day session.
+    /// Prices that go out at the close.
     Close,
-    /// At the morning cut.
+    /// Prices that go out in the morning.
     Morning,
 }
 

@@ -188,7 +188,7 @@ pub fn places(family: Family, choice: Choice) -> [Option<Place>; PLACES]
 /// The place of a row at a position from 0 on; nothing past its end.
 pub fn place_at(family: Family, choice: Choice, position: usize) -> Option<Place>
     ensures value { result ≡ at (row family choice) position }
-    ensures lawful { PlaceLawful (at (row family choice)) position result }
+    ensures lawful { PlaceLawful (λ k. decoded (code_at family choice k)) position result }
 {
     let code = *codes(family, choice).get(position)?;
     decode(code)
