@@ -81,8 +81,10 @@ fn ask_both<K: LadderSet, J: Book, L: LadderSet, B: Book>(
 
 /// Performs two runs and asks both the same. Each house and each book then hold what they have at the end of its run, each ladder
 /// set is as it was, and memory that was lent to a book has the entries taken stored in it. What stands in the end of a run from
-/// a new house and an empty book is told by the calls taken. If the runs can be compared (`Comparable`: new houses on empty books of one day, ladder sets of one
-/// meaning, and in both, by the calls taken, the series listed and the edition open), then
+/// a new house and an empty book is told by the calls taken.
+///
+/// If the runs can be compared (`Comparable`: new houses on empty books of one day, ladder sets of one meaning, and in both, by the
+/// calls taken, the series listed and the edition open), then
 /// - the same evidence on the series' path gives the same answer;
 /// - if only prices differ there, and none is lower in the second run, both settle on the same step and place, the second at
 ///   no lower a price, or both are refused from the same origin;
