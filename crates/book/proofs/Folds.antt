@@ -1,17 +1,19 @@
--- What holds of figures after any allowed entries.
-use Rattle.std.proofs.Common.{◌≡◌, ℕ, ◌+◌, ◌≤◌, Bool, true, List, [], ◌∷◌, ◌++◌, length, ℤ, fold, refl, ap, ◌∙◌, arith}
+-- What holds of figures after any allowed entries, and of a book told by its entries that takes one more.
+use Rattle.std.proofs.Common.{◌≡◌, ℕ, ◌+◌, ◌≤◌, Bool, true, List, [], ◌∷◌, ◌++◌, length, ℤ, Ok, fold, sym, refl, ap, ◌∙◌, arith}
 use Rattle.std.proofs.lemmas.List.{length_push}
 use Rattle.std.proofs.lemmas.List.Sums.{fold_push}
 use Rattle.std.proofs.lemmas.Bool.{and_parts, and_from}
 use Rattle.book.specs.Bounds.{bounded}
+use Rattle.book.specs.Entries.{allowed}
 use Rattle.book.specs.Figures.{empty, entered_if, entered_in, sound, values}
 use Rattle.book.specs.Growth.{bounded_entered, bounded_empty, enters, roomy_from}
 use Rattle.book.specs.LawfulRecords.{sound_parts}
-use Rattle.book.specs.Ledgers.{entered, with_taken}
+use Rattle.book.specs.Ledgers.{entered, take_after, take_answer, with_taken}
 use Rattle.book.specs.Records.{every, figures_of, recorded}
 use Rattle.book.specs.declared.days.Day.{Day}
 use Rattle.book.specs.declared.entries.Entry.{Entry}
 use Rattle.book.specs.declared.figures.Figures.{Figures}
+use Rattle.book.proofs.Taking.{admitted}
 
 -- ---- tests of every element
 
@@ -40,3 +42,20 @@ recorded_push d k es e =
     let count = length_push es e in
     let more : (s w : ℕ) → figures_of d (es ++ (e ∷ [])) s w ≡ entered d s w (figures_of d es s w) e = λ s w. fold_push (entered d s w) empty es e in
     λ i. record { day = d; capacity = k; count = count i; figures = λ s w. more s w i }
+
+-- a book that is told by these entries, and takes one more
+pub record TakesOne (d : Day) (k : ℕ) (es : List Entry) (e : Entry) : Type 0 where
+  pub allowed : every (allowed d) (es ++ (e ∷ [])) ≡ true
+  pub room : length (es ++ (e ∷ [])) ≤ k
+  pub after : recorded d k (es ++ (e ∷ [])) ≡ take_after (recorded d k es) e
+
+pub takes_one : (d : Day) (k : ℕ) (es : List Entry) (e : Entry) → every (allowed d) es ≡ true → length es ≤ k → Ok tt ≡ take_answer (recorded d k es) e → TakesOne d k es e
+takes_one d k es e all room ok =
+    let a = admitted (recorded d k es) e ok in
+    let count = length_push es e in
+    let full = a.place in
+    record {
+      allowed = every_push (allowed d) es e all a.lawful;
+      room = omega arith;
+      after = recorded_push d k es e ∙ sym a.taken;
+    }

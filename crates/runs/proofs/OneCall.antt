@@ -13,9 +13,8 @@ use Rattle.book.specs.Records.{every, recorded}
 use Rattle.book.specs.declared.days.Day.{Day}
 use Rattle.book.specs.declared.entries.Entry.{Entry}
 use Rattle.book.specs.declared.faults.BookFault.{BookFault}
-use Rattle.book.proofs.Folds.{every_push, recorded_push}
+use Rattle.book.proofs.Folds.{recorded_push, takes_one}
 use Rattle.book.proofs.RecordedEvidence.{evidence}
-use Rattle.book.proofs.Taking.{admitted}
 use Rattle.rows.specs.Families.{family_of}
 use Rattle.house.specs.Calls.{State, by_book, demand, entry_after, entry_answer, entry_passed, listed_terms, may_rule, moved, ruling_after, ruling_answer, ruling_of, rung, then, theory_after, theory_answer, ok_with, with_ruling, with_theory}
 use Rattle.house.specs.Rolls.{Roll, changed, is_listed, placed, with_listed}
@@ -311,15 +310,9 @@ told_entry : (d : Day) (k : ℕ) (lawful : ℕ → ℤ → Bool) (xs : List Call
     → is_ok (entry_answer lawful m e s) ≡ true → BookTold d k xs m
     → BookTold d k (xs ++ (Enter e ∷ [])) (entry_after lawful e s m)
 told_entry d k lawful xs e s m ok t =
-    let taken = admitted m e (sym (ok_value (take_answer m e) (book_ok (entry_passed lawful m.day e s) (take_answer m e) ok)).1) in
-    let day : m.day ≡ d = ap (λ (l : Ledger). l.day) t.records in
-    let count : m.count ≡ length (entries xs) = ap (λ (l : Ledger). l.count) t.records in
-    let capacity : m.capacity ≡ k = ap (λ (l : Ledger). l.capacity) t.records in
-    let full : length (entries xs) ≡ k → ⊥ = λ h. taken.place (count ∙ h ∙ sym capacity) in
-    let room = t.room in
+    let taken = sym (ok_value (take_answer m e) (book_ok (entry_passed lawful m.day e s) (take_answer m e) ok)).1 in
+    let one = takes_one d k (entries xs) e t.lawful t.room (taken ∙ ap (λ l. take_answer l e) t.records) in
     let more = entries_push xs (Enter e) in
-    let long = length_push (entries xs) e in
-    let few : length (entries xs ++ (e ∷ [])) ≤ k = omega arith in
     let records = ap (λ a. moved a (λ _. with_taken m e) m) (ok_value (entry_answer lawful m e s) ok).1
     ∙ ap (λ l. with_taken l e) t.records
     ∙ sym (recorded_push d k (entries xs) e)
@@ -327,9 +320,8 @@ told_entry d k lawful xs e s m ok t =
     in
     record {
       records = records;
-      lawful = ap (every (allowed d)) more ∙ every_push (allowed d) (entries xs) e t.lawful
-          (ap (λ y. allowed y e) (sym day) ∙ taken.lawful);
-      room = subst (λ es. length es ≤ k) (sym more) few;
+      lawful = ap (every (allowed d)) more ∙ one.allowed;
+      room = subst (λ es. length es ≤ k) (sym more) one.room;
       evidence = evidence_told d k (entries (xs ++ (Enter e ∷ []))) (entry_after lawful e s m) records;
     }
 

@@ -1,4 +1,4 @@
--- What is stored of the calls taken: in memory of any kind, and in places for entries.
+-- What the calls of a list leave, call by call; and what is stored of those taken, in memory of any kind and in places for entries.
 use Rattle.std.proofs.Common.{◌≡◌, ℕ, ◌+◌, ◌<◌, ◌≤◌, Bool, true, false, cond, List, [], ◌∷◌, ◌++◌, length, drop, set, get_or, ℤ, is_ok, Ok, Err, Result, sym, refl, ap, ◌∙◌, arith}
 use Rattle.std.specs.Borrow.{MutBor}
 use Rattle.std.proofs.Math.Numerals.{add-one}
@@ -17,6 +17,15 @@ use Rattle.runs.specs.Runs.{after_run, calls_taken}
 use Rattle.runs.specs.Stored.{filled, with_all_stored}
 
 -- ---- a call and those that follow it
+
+-- one call further in a list of calls, over the same ladders
+pub made_next : (ladders : ℕ) (lawful : ℕ → ℤ → Bool) (d : Call) (n : ℕ) (P : ℕ → ℤ → Bool) (calls : List Call) (i : ℕ) (w next end : World) → n ≡ ladders → P ≡ lawful
+    → i < length calls → next ≡ after_call n P (get_or calls i d) w
+    → after_run ladders lawful (drop i calls) w ≡ end → after_run ladders lawful (drop (i + 1) calls) next ≡ end
+made_next ladders lawful d n P calls i w next end size prices few is so_far =
+    ap (after_run ladders lawful (drop (i + 1) calls)) (is ∙ λ j. after_call (size j) (prices j) (get_or calls i d) w)
+    ∙ sym (at_drop_more (λ cs. after_run ladders lawful cs w) calls i d few)
+    ∙ so_far
 
 module _ {M : Type 0} (with_stored : M → ℕ → Entry → M) (ladders : ℕ) (lawful : ℕ → ℤ → Bool) where
   -- memory with the entries of the calls taken stored in it
@@ -51,16 +60,7 @@ module _ {M : Type 0} (with_stored : M → ℕ → Entry → M) (ladders : ℕ) 
   stored_more (SetRuling n value first) rest w memory = unstored (SetRuling n value first) rest w memory refl refl
   stored_more (Settle n edition) rest w memory = unstored (Settle n edition) rest w memory refl refl
 
-  -- ---- one call further in a list of calls, over the same ladders
-
-  pub made_next : (d : Call) (n : ℕ) (P : ℕ → ℤ → Bool) (calls : List Call) (i : ℕ) (w next end : World) → n ≡ ladders → P ≡ lawful
-      → i < length calls → next ≡ after_call n P (get_or calls i d) w
-      → after_run ladders lawful (drop i calls) w ≡ end → after_run ladders lawful (drop (i + 1) calls) next ≡ end
-  made_next d n P calls i w next end size prices few is so_far =
-      ap (after_run ladders lawful (drop (i + 1) calls)) (is ∙ λ j. after_call (size j) (prices j) (get_or calls i d) w)
-      ∙ sym (at_drop_more (λ cs. after_run ladders lawful cs w) calls i d few)
-      ∙ so_far
-
+  -- one call further in a list of calls, over the same ladders
   pub stored_next : (d : Call) (n : ℕ) (P : ℕ → ℤ → Bool) (calls : List Call) (i : ℕ) (w next : World) (memory then end : M)
       → n ≡ ladders → P ≡ lawful → i < length calls → next ≡ after_call n P (get_or calls i d) w
       → then ≡ memory_after_call with_stored P (get_or calls i d) w memory

@@ -79,9 +79,12 @@ fn ask_both<K: LadderSet, J: Book, L: LadderSet, B: Book>(
     (one, other)
 }
 
-/// Performs two runs and asks both the same. Each house and each book then hold what they have at the end of its run, and each
-/// ladder set is as it was. If the runs can be compared (`Comparable`: new houses on empty books of one day, ladder sets of one
-/// meaning, and in both, by the calls taken, the series listed and the edition open), then
+/// Performs two runs and asks both the same. Each house and each book then hold what they have at the end of its run, each ladder
+/// set is as it was, and memory that was lent to a book has the entries taken stored in it. What stands in the end of a run from
+/// a new house and an empty book is told by the calls taken.
+///
+/// If the runs can be compared (`Comparable`: new houses on empty books of one day, ladder sets of one meaning, and in both, by the
+/// calls taken, the series listed and the edition open), then
 /// - the same evidence on the series' path gives the same answer;
 /// - if only prices differ there, and none is lower in the second run, both settle on the same step and place, the second at
 ///   no lower a price, or both are refused from the same origin;
@@ -117,8 +120,9 @@ pub fn compare<K: LadderSet, J: Book, L: LadderSet, B: Book>(
 }
 
 /// The same, of runs that this call begins itself: one on a board of the capacity stated, one on a tape in the places lent.
-/// So nothing is asked of the beginning, and only that the ladder sets have one meaning. What each run is made of stands apart,
-/// since the two makes need different things. The errors are those of `compare`.
+/// So nothing is asked of the beginning, and only that the ladder sets have one meaning. The places then hold the entries taken in
+/// the second run, in their order, and after them what stood there. What each run is made of stands apart, since the two makes need
+/// different things. The errors are those of `compare`.
 pub fn compare_makes<K: LadderSet + Drop, L: LadderSet + Drop>(
     day: LawfulDay,
     set: K,

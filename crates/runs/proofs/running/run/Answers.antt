@@ -23,7 +23,7 @@ loop-call-preserved g c =
     let same_prices = ap g.L.LadderSet.lawful set in
     record {
       set = c.perform.ensures.set ∙ set;
-      after = made_next g.B.Book.with_stored size lawful _ _ _ calls now.call-index w _ _ same_size same_prices few c.perform.ensures.after now.invariant.after;
+      after = made_next size lawful _ _ _ calls now.call-index w _ _ same_size same_prices few c.perform.ensures.after now.invariant.after;
       memory = stored_next g.B.Book.with_stored size lawful _ _ _ calls now.call-index w _ memory _ _ same_size same_prices few c.perform.ensures.after c.perform.ensures.memory now.invariant.memory;
     }
 
