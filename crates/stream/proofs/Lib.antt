@@ -1,4 +1,6 @@
 pub mod Cutting
+pub mod Fronts
 pub mod OneTranscript
 pub mod Pieces
+pub mod Results
 pub mod Whole
