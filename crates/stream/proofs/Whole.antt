@@ -7,7 +7,7 @@ use Rattle.std.proofs.lemmas.List.Elements.{All-nil}
 use Rattle.book.specs.Ledgers.{Ledger}
 use Rattle.desk.specs.Desks.{DeskState, waiting}
 use Rattle.stream.specs.Held.{AnsweredUpTo, AnswersSent, AppendsFront, Finished, Flushed, InputClosed, LinesAnswered, PieceAnswered, PieceTaken, View, at_first}
-use Rattle.stream.specs.Inputs.{last_line}
+use Rattle.stream.specs.Inputs.{last_line, lines_of}
 use Rattle.stream.specs.Served.{Served, ServedInPart}
 use Rattle.stream.specs.Transcripts.{IsTranscript}
 use Rattle.stream.proofs.Cutting.{lines_split}
@@ -68,13 +68,18 @@ reached_more x y z a b c piece r read answered = record {
   answered = piece_join a b c r.input piece r.answered answered;
 }
 
+-- the transcript of all lines of an input that has ended
+all_lines : (contents : Option (List ℕ)) (m : Ledger) (b d : View) (input : List ℕ) (w : PieceAnswered (at_first contents m) input b) (x : InputClosed b d)
+    → IsTranscript (waiting m) (lines_of input) (w.out ++ x.out) d.desk_state
+all_lines contents m b d input w x =
+    let (lines, rest, split, so_far, held) = w.lines.answers_to [] (All-nil (λ b. b ≢ 10)) refl in
+    subst (λ ls. IsTranscript (waiting m) ls (w.out ++ x.out) d.desk_state) (sym (lines_split input lines rest split))
+    (transcript_join (waiting m) b.desk_state d.desk_state lines (last_line rest) w.out x.out so_far (x.last rest split.open_end held))
+
 -- the end of the input
 pub served_all : (x y z contents : Option (List ℕ)) (m : Ledger) (b d : View) (none : List ℕ)
     → Reached x y (at_first contents m) b → Consumes y z none → none ≡ [] → IsAtEnd z → Finished b d → Served x contents d.contents m d.desk_state.book
 served_all x y z contents m b d none r read is end f =
-    let answers_to = r.answered.lines.answers_to [] (All-nil (λ b. b ≢ 10)) refl in
-    let lines = answers_to.0 in
-    let rest = answers_to.1 in
     let out = r.answered.out ++ f.closed.out in
     record {
       input = r.input;
@@ -82,30 +87,25 @@ served_all x y z contents m b d none r read is end f =
       desk_state = d.desk_state;
       whole = Consumes-whole x z (r.input ++ none) (λ xs. r.input ≡ xs) (Consumes-trans x y z r.input none r.read read) end (sym (append-nil r.input) ∙ ap (λ ys. r.input ++ ys) (sym is));
       written = all_front contents d.contents out d.unsent f.sent (front_join contents b.contents d.contents r.answered.out f.closed.out b.unsent d.unsent r.answered.written f.closed.written);
-      is_transcript = subst (λ ls. IsTranscript (waiting m) ls out d.desk_state) (sym (lines_split r.input lines rest answers_to.2))
-          (transcript_join (waiting m) b.desk_state d.desk_state lines (last_line rest) r.answered.out f.closed.out answers_to.3 (f.closed.last rest answers_to.2.open_end answers_to.4));
+      is_transcript = all_lines contents m b d r.input r.answered f.closed;
       book = refl;
     }
 
 -- an error at the end of the input
 pub served_to_end : (x y z contents : Option (List ℕ)) (m : Ledger) (b d : View) (none : List ℕ)
     → Reached x y (at_first contents m) b → Consumes y z none → none ≡ [] → IsAtEnd z → InputClosed b d → ServedInPart x z contents d.contents m d.desk_state.book
-served_to_end x y z contents m b d none r read is end f =
-    let answers_to = r.answered.lines.answers_to [] (All-nil (λ b. b ≢ 10)) refl in
-    let lines = answers_to.0 in
-    let rest = answers_to.1 in
-    record {
-      input = r.input;
-      lines = lines ++ last_line rest;
-      out = r.answered.out ++ f.out;
-      unsent = d.unsent;
-      desk_state = d.desk_state;
-      read = subst (Consumes x z) (ap (λ ys. r.input ++ ys) is ∙ append-nil r.input) (Consumes-trans x y z r.input none r.read read);
-      answered = inr (end, sym (lines_split r.input lines rest answers_to.2));
-      written = front_join contents b.contents d.contents r.answered.out f.out b.unsent d.unsent r.answered.written f.written;
-      is_transcript = transcript_join (waiting m) b.desk_state d.desk_state lines (last_line rest) r.answered.out f.out answers_to.3 (f.last rest answers_to.2.open_end answers_to.4);
-      book = refl;
-    }
+served_to_end x y z contents m b d none r read is end f = record {
+  input = r.input;
+  lines = lines_of r.input;
+  out = r.answered.out ++ f.out;
+  unsent = d.unsent;
+  desk_state = d.desk_state;
+  read = subst (Consumes x z) (ap (λ ys. r.input ++ ys) is ∙ append-nil r.input) (Consumes-trans x y z r.input none r.read read);
+  answered = inr (end, refl);
+  written = front_join contents b.contents d.contents r.answered.out f.out b.unsent d.unsent r.answered.written f.written;
+  is_transcript = all_lines contents m b d r.input r.answered f;
+  book = refl;
+}
 
 -- an error in a piece
 pub served_in_piece : (x y z contents : Option (List ℕ)) (m : Ledger) (b d : View) (piece rest : List ℕ)
