@@ -1,8 +1,8 @@
 -- Bytes that a writer gets in part.
-use Rattle.std.proofs.Common.{◌≡◌, ℕ, List, [], ◌++◌, take, drop, Option, refl, sym, ap, ◌∙◌, subst}
+use Rattle.std.proofs.Common.{◌≡◌, ℕ, ◌-◌, List, [], ◌++◌, length, take, drop, Option, refl, sym, ap, ◌∙◌, subst}
 use Rattle.std.specs.Io.KnownBytes.{Appends, Keeps}
 use Rattle.std.proofs.KnownBytes.{Appends-kept, Appends-nil, Appends-trans}
-use Rattle.std.proofs.lemmas.List.{append-nil, append_assoc, take-append-drop}
+use Rattle.std.proofs.lemmas.List.{append-nil, append_assoc, take-append-drop, take_rest}
 use Rattle.stream.specs.Held.{AppendsFront}
 
 -- all of them wait
@@ -37,10 +37,14 @@ front_more a b bytes more rest x = front_join a b b bytes more rest (rest ++ mor
 pub front_kept : (a b c : Option (List ℕ)) (bytes rest : List ℕ) → AppendsFront a b bytes rest → Keeps b c → AppendsFront a c bytes rest
 front_kept a b c bytes rest x kept = record { front = x.front; whole = x.whole; appended = Appends-kept a b c x.front x.appended kept }
 
--- the writer takes some of what is left
-pub front_wrote : (a b c : Option (List ℕ)) (bytes rest : List ℕ) (n : ℕ) → AppendsFront a b bytes rest → Appends b c (take n rest) → AppendsFront a c bytes (drop n rest)
+-- the writer takes some of what is left, as a slice from there on has it
+pub front_wrote : (a b c : Option (List ℕ)) (bytes rest : List ℕ) (n : ℕ) → AppendsFront a b bytes rest → Appends b c (take n rest) → AppendsFront a c bytes (take (length rest - n) (drop n rest))
 front_wrote a b c bytes rest n x took = record {
   front = x.front ++ take n rest;
-  whole = x.whole ∙ ap (λ xs. x.front ++ xs) (sym (take-append-drop n rest)) ∙ sym (append_assoc x.front (take n rest) (drop n rest));
+  whole =
+      x.whole
+      ∙ ap (λ xs. x.front ++ xs) (sym (take-append-drop n rest))
+      ∙ sym (append_assoc x.front (take n rest) (drop n rest))
+      ∙ ap (λ xs. (x.front ++ take n rest) ++ xs) (sym (take_rest rest n));
   appended = Appends-trans a b c x.front (take n rest) x.appended took;
 }

@@ -1,7 +1,7 @@
 // Answers on their way to the writer.
-ghost use Rattle.std.specs.Prelude.{◌≡◌, ◌≢◌, ℕ, List, ◌+◌, ◌≤◌, [], ◌++◌, length, IfErr, OnErr, OnOk};
+ghost use Rattle.std.specs.Prelude.{◌≡◌, ◌≢◌, ℕ, ◌+◌, ◌<◌, ◌≤◌, List, [], ◌++◌, length, take, IfErr, IfOk, OnErr, OnOk};
 ghost use Rattle.std.specs.IoError.{error_kind};
-ghost use Rattle.std.specs.Io.KnownBytes.{Appends};
+ghost use Rattle.std.specs.Io.KnownBytes.{Appends, Keeps};
 ghost use Rattle.stream.specs.Held.{AppendsFront};
 
 use std::io;
@@ -9,20 +9,17 @@ use std::io::{ErrorKind, Write};
 
 const SIZE: usize = 8192;
 
-// Hands bytes to the writer, all of them or, on an error, a front of them. A write that a signal interrupts is tried again.
-fn write_bytes<W: Write>(writer: &mut W, bytes: &[u8]) -> io::Result<()>
-    ensures all { OnOk result (Appends (W.contents writer.old) (W.contents writer.new) bytes.now) }
-    ensures front { OnErr result ((rest : List ℕ) × AppendsFront (W.contents writer.old) (W.contents writer.new) bytes.now rest) }
+// Hands some of the bytes to the writer, one at least. A write that a signal interrupts is tried again.
+fn write_some<W: Write>(writer: &mut W, bytes: &[u8]) -> io::Result<usize>
+    ensures some { IfOk result (λ n. (0 < n) × (n ≤ length bytes.now)) }
+    ensures written { IfOk result (λ n. Appends (W.contents writer.old) (W.contents writer.new) (take n bytes.now)) }
+    ensures kept { OnErr result (Keeps (W.contents writer.old) (W.contents writer.new)) }
     ensures again { IfErr result (λ e. error_kind e ≢ ErrorKind.Interrupted) }
 {
-    let mut rest = bytes;
     for _ in 0..u64::MAX {
-        if rest.is_empty() {
-            return Ok(());
-        }
-        match writer.write(rest) {
+        match writer.write(bytes) {
             Ok(0) => return Err(ErrorKind::WriteZero.into()),
-            Ok(n) => rest = &rest[n..],
+            Ok(n) => return Ok(n),
             Err(e) => {
                 if e.kind() != ErrorKind::Interrupted {
                     return Err(e);
@@ -31,6 +28,20 @@ fn write_bytes<W: Write>(writer: &mut W, bytes: &[u8]) -> io::Result<()>
         }
     }
     Err(ErrorKind::Other.into())
+}
+
+// Hands the bytes to the writer, all of them or, on an error, a front of them.
+#[tactic(auto, using(crate::proofs::Fronts::front_wrote))]
+fn write_bytes<W: Write>(writer: &mut W, bytes: &[u8]) -> io::Result<()>
+    ensures all { OnOk result (Appends (W.contents writer.old) (W.contents writer.new) bytes.now) }
+    ensures front { OnErr result ((rest : List ℕ) × AppendsFront (W.contents writer.old) (W.contents writer.new) bytes.now rest) }
+{
+    let mut rest = bytes;
+    while !rest.is_empty() {
+        let n = write_some(writer, rest)?;
+        rest = &rest[n..];
+    }
+    Ok(())
 }
 
 // So many answers go to the writer at once: one by one they would be a system call each.
