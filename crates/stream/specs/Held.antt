@@ -38,7 +38,7 @@ pub record View : Type 0 where
 abbrev pub at_first : Option (List ℕ) → Ledger → View
 at_first contents m = record { contents = contents; unsent = []; desk_state = waiting m; held = [] }
 
--- a write failed: this is so of what the writer has, of the desk and of the book; what the session holds counts no more
+-- a write or flush failed: this is so of what the writer has, of the desk and of the book; what the session holds counts no more
 abbrev pub WriteFailed : View → (View → Type 0) → Type 0
 WriteFailed b IsSo = (unsent : List ℕ) × (held : List ℕ) × IsSo (record { contents = b.contents; unsent = unsent; desk_state = b.desk_state; held = held })
 
@@ -78,7 +78,7 @@ pub record Finished (a b : View) : Type 0 where
   pub closed : InputClosed a b
   pub sent : b.unsent ≡ []
 
--- answers that waited go to the writer, and nothing else changes
+-- of the answers that waited the writer gets a front, and nothing else changes
 pub record AnswersSent (a b : View) : Type 0 where
   pub written : AppendsFront a.contents b.contents a.unsent b.unsent
   pub desk_state : b.desk_state ≡ a.desk_state

@@ -62,7 +62,7 @@ impl Session {
         }
     }
 
-    /// Whether a call has failed.
+    /// Whether a call has failed: each further one is refused.
     pub fn has_failed(&self) -> bool
         ensures { result ≡ has_failed self.now }
     {
@@ -179,9 +179,8 @@ impl Session {
 
     // A session that has failed takes no further call.
     fn check(&self) -> io::Result<()>
-        ensures working { OnOk result (has_failed self.now ≡ false) }
-        ensures failed { IfErr result (λ e. error_kind e ≡ ErrorKind.Other) }
-        ensures only { OnErr result (has_failed self.now ≡ true) }
+        ensures refused { is_err result ≡ has_failed self.now }
+        ensures kind { IfErr result (λ e. error_kind e ≡ ErrorKind.Other) }
     {
         if self.failed {
             return Err(ErrorKind::Other.into());
