@@ -1,7 +1,5 @@
 -- A session given one piece after the other.
-use Rattle.std.proofs.Common.{◌≡◌, ◌≢◌, ℕ, suc, ◌+◌, ◌-◌, ◌<◌, ◌≤◌, List, [], ◌∷◌, ◌++◌, length, take, drop, get_or, replicate, Some, None, Ok, Err, Option, Result, refl, sym, ap, ◌∙◌, subst, arith}
-use Rattle.std.specs.Io.KnownBytes.{Appends}
-use Rattle.std.proofs.KnownBytes.{Appends-nil, Appends-trans}
+use Rattle.std.proofs.Common.{◌≡◌, ◌≢◌, ℕ, suc, ◌+◌, ◌-◌, ◌<◌, ◌≤◌, List, [], ◌∷◌, ◌++◌, length, take, drop, get_or, replicate, Ok, Err, Option, Result, refl, sym, ap, ◌∙◌, subst, arith}
 use Rattle.std.proofs.lemmas.Bool.{eq-eqb, eqb-true}
 use Rattle.std.proofs.lemmas.List.{append-nil, append_assoc, drop-replicate, get_or-take, length-take-le, length_push, take-append-drop, take_all, take_at, take_more}
 use Rattle.std.proofs.lemmas.List.Elements.{All-append, All-from_get_or}
@@ -10,12 +8,11 @@ use Rattle.answers.specs.Texts.{answer_text}
 use Rattle.answers.specs.declared.faults.LineFault.{LineFault}
 use Rattle.desk.specs.Desks.{DeskState}
 use Rattle.desk.specs.Responses.{Responded}
-use Rattle.stream.specs.Held.{InputClosed, LineEnded, LinesAnswered, AnswerPrinted, View, PieceAnswered, first_bytes}
+use Rattle.stream.specs.Held.{AnsweredUpTo, AnswerPrinted, AppendsFront, InputClosed, LineEnded, LinesAnswered, PieceAnswered, View, first_bytes}
 use Rattle.stream.specs.Inputs.{Splits, Unbroken, last_line}
-use Rattle.stream.specs.Sessions.{printed, unsent}
 use Rattle.stream.specs.Transcripts.{IsTranscript}
-use Rattle.stream.specs.declared.unsent.Unsent.{Unsent}
 use Rattle.stream.proofs.Cutting.{held_more, splits_ended, splits_join, splits_open}
+use Rattle.stream.proofs.Fronts.{front_join, front_none}
 use Rattle.stream.proofs.OneTranscript.{transcript_held, transcript_join, transcript_line, transcript_none}
 
 pub lines_answered_none : (s : DeskState) (old : List ℕ) → LinesAnswered s old [] [] s old
@@ -66,17 +63,17 @@ written_length (Ok n) = n
 written_length (Err f) = 0
 
 -- a response to a line, printed with a newline
-pub printed_line : (line : List ℕ) (s t : DeskState) (before after : Option (List ℕ)) (out shown : List ℕ) (r : Result ℕ LineFault) (n : ℕ)
-    → Responded line s (replicate 97 10) r out t → r ≡ Ok n → n ≤ 96 → shown ≡ take (n + 1) out → Appends before after shown
-    → AnswerPrinted line s before after t
-printed_line line s t before after out shown r n response ok short is_shown appended =
+pub printed_line : (line : List ℕ) (s t : DeskState) (before after : Option (List ℕ)) (old new : List ℕ) (out shown : List ℕ) (r : Result ℕ LineFault) (n : ℕ)
+    → Responded line s (replicate 97 10) r out t → r ≡ Ok n → n ≤ 96 → shown ≡ take (n + 1) out → AppendsFront before after (old ++ shown) new
+    → AnswerPrinted line s before after old new t
+printed_line line s t before after old new out shown r n response ok short is_shown appended =
     let x = response.long (omega arith) in
     let answer = x.0 in
     let y = x.2.long (omega arith) in
     let same : n ≡ length (answer_text answer) = ap written_length (sym ok ∙ y.0) in
     record {
       out = answer_text answer ++ (10 ∷ []);
-      written = subst (Appends before after) (is_shown ∙ newline_behind (answer_text answer) out n same short y.1) appended;
+      written = subst (λ xs. AppendsFront before after (old ++ xs) new) (is_shown ∙ newline_behind (answer_text answer) out n same short y.1) appended;
       is_transcript = transcript_line line s answer t x.1;
     }
 
@@ -86,7 +83,7 @@ nothing_held [] e = refl
 nothing_held (b ∷ bs) e = absurd (omega (arith, ap length e))
 
 -- a line that stands whole in a piece
-pub ended_whole : (a b : View) (bytes : List ℕ) → a.held ≡ [] → b.held ≡ [] → AnswerPrinted bytes a.desk_state a.printed b.printed b.desk_state → LineEnded a bytes b
+pub ended_whole : (a b : View) (bytes : List ℕ) → a.held ≡ [] → b.held ≡ [] → AnswerPrinted bytes a.desk_state a.contents b.contents a.unsent b.unsent b.desk_state → LineEnded a bytes b
 ended_whole a b bytes none cleared x = record {
   out = x.out;
   written = x.written;
@@ -95,7 +92,7 @@ ended_whole a b bytes none cleared x = record {
 }
 
 -- a line of which something was held
-pub ended_held : (a b : View) (bytes line : List ℕ) → line ≡ first_bytes (a.held ++ bytes) → b.held ≡ [] → AnswerPrinted line a.desk_state a.printed b.printed b.desk_state → LineEnded a bytes b
+pub ended_held : (a b : View) (bytes line : List ℕ) → line ≡ first_bytes (a.held ++ bytes) → b.held ≡ [] → AnswerPrinted line a.desk_state a.contents b.contents a.unsent b.unsent b.desk_state → LineEnded a bytes b
 ended_held a b bytes line is cleared x = record {
   out = x.out;
   written = x.written;
@@ -121,11 +118,15 @@ piece_ended a b bytes other x = record {
   };
 }
 
+-- nothing is printed
+unchanged : (a : View) → AppendsFront a.contents a.contents (a.unsent ++ []) a.unsent
+unchanged a = subst (λ xs. AppendsFront a.contents a.contents xs a.unsent) (sym (append-nil a.unsent)) (front_none a.contents a.unsent)
+
 -- the input ends behind a newline
 pub closed_none : (a : View) → a.held ≡ [] → InputClosed a a
 closed_none a none = record {
   out = [];
-  written = Appends-nil a.printed;
+  written = unchanged a;
   last = λ line h was. subst (λ ls. IsTranscript a.desk_state ls [] a.desk_state) (sym (ap last_line (nothing_held line (sym was ∙ none)))) (transcript_none a.desk_state);
   held = none;
 }
@@ -143,35 +144,28 @@ closed_line a b some x = record {
     one [] was h = absurd (some was)
     one (c ∷ cs) was h = h
 
--- nothing is on its way to the writer
-pub printed_none : (contents : Option (List ℕ)) (u : Unsent) → unsent u ≡ [] → printed contents u ≡ contents
-printed_none None u h = refl
-printed_none (Some xs) u h = ap (λ ys. Some (xs ++ ys)) h ∙ ap Some (append-nil xs)
-
 pub piece_none : (a : View) → PieceAnswered a [] a
-piece_none a = record { out = []; written = Appends-nil a.printed; lines = lines_answered_none a.desk_state a.held }
+piece_none a = record { out = []; written = unchanged a; lines = lines_answered_none a.desk_state a.held }
+
+-- where this is held now
+abbrev pub holding : View → List ℕ → View
+holding a new = record { contents = a.contents; unsent = a.unsent; desk_state = a.desk_state; held = new }
 
 -- bytes without a newline
-pub piece_open : (printed : Option (List ℕ)) (s : DeskState) (old new bytes : List ℕ) → Unbroken bytes → new ≡ first_bytes (old ++ bytes)
-    → PieceAnswered (record { printed = printed; desk_state = s; held = old }) bytes (record { printed = printed; desk_state = s; held = new })
-piece_open printed s old new bytes other is = record { out = []; written = Appends-nil printed; lines = lines_answered_open s old new bytes other is }
+pub piece_open : (a : View) (new bytes : List ℕ) → Unbroken bytes → new ≡ first_bytes (a.held ++ bytes) → PieceAnswered a bytes (holding a new)
+piece_open a new bytes other is = record { out = []; written = unchanged a; lines = lines_answered_open a.desk_state a.held new bytes other is }
 
 pub piece_join : (a b c : View) (piece more : List ℕ) → PieceAnswered a piece b → PieceAnswered b more c → PieceAnswered a (piece ++ more) c
 piece_join a b c piece more x y = record {
   out = x.out ++ y.out;
-  written = Appends-trans a.printed b.printed c.printed x.out y.out x.written y.written;
+  written = subst (λ xs. AppendsFront a.contents c.contents xs c.unsent) (append_assoc a.unsent x.out y.out)
+      (front_join a.contents b.contents c.contents (a.unsent ++ x.out) y.out b.unsent c.unsent x.written y.written);
   lines = lines_answered_join a.desk_state b.desk_state c.desk_state a.held b.held c.held piece more x.out y.out x.lines y.lines;
 }
 
 -- ---- a piece, newline by newline
 
--- the front of a piece was gone through, and the rest is left
-pub record AnsweredUpTo (piece rest : List ℕ) (a b : View) : Type 0 where
-  pub front : List ℕ
-  pub whole : piece ≡ front ++ rest
-  pub answered : PieceAnswered a front b
-
-pub up_to_none : (piece : List ℕ) (a : View) → AnsweredUpTo piece piece a a
+pub up_to_none : (piece : List ℕ) (a : View) → AnsweredUpTo a piece piece a
 up_to_none piece a = record { front = []; whole = refl; answered = piece_none a }
 
 -- no newline stands before a place
@@ -183,7 +177,7 @@ unbroken_before rest n h none =
     none i (omega arith) under (eq-eqb (get_or rest i 0) 10 (sym (get_or-take n rest i 0 under) ∙ is)))
 
 -- as far as the next newline
-pub up_to_line : (piece rest : List ℕ) (n : ℕ) (a b c : View) → NoneBefore (Passes (is_byte 10) rest) 0 (length rest) n → Passes (is_byte 10) rest n → AnsweredUpTo piece rest a b → LineEnded b (take n rest) c → AnsweredUpTo piece (drop (n + 1) rest) a c
+pub up_to_line : (piece rest : List ℕ) (n : ℕ) (a b c : View) → NoneBefore (Passes (is_byte 10) rest) 0 (length rest) n → Passes (is_byte 10) rest n → AnsweredUpTo a piece rest b → LineEnded b (take n rest) c → AnsweredUpTo a piece (drop (n + 1) rest) c
 up_to_line piece rest n a b c first newline p x =
     let bytes = take n rest ++ (10 ∷ []) in
     let high = first.high in
@@ -199,11 +193,7 @@ up_to_line piece rest n a b c first newline p x =
     }
 
 -- and to the end, where none is left
-pub up_to_all : (piece rest new : List ℕ) (printed : Option (List ℕ)) (s : DeskState) (old : List ℕ) (a : View)
-    → Nowhere (Passes (is_byte 10) rest) 0 (length rest) → AnsweredUpTo piece rest a (record { printed = printed; desk_state = s; held = old }) → new ≡ first_bytes (old ++ rest)
-    → PieceAnswered a piece (record { printed = printed; desk_state = s; held = new })
-up_to_all piece rest new printed s old a none p is =
+pub up_to_all : (piece rest new : List ℕ) (a b : View) → Nowhere (Passes (is_byte 10) rest) 0 (length rest) → AnsweredUpTo a piece rest b → new ≡ first_bytes (b.held ++ rest) → PieceAnswered a piece (holding b new)
+up_to_all piece rest new a b none p is =
     let unbroken : Unbroken rest = subst Unbroken (take_all (length rest) rest (omega arith)) (unbroken_before rest (length rest) (omega arith) none) in
-    subst (λ xs. PieceAnswered a xs (record { printed = printed; desk_state = s; held = new })) (sym p.whole)
-    (piece_join a (record { printed = printed; desk_state = s; held = old }) (record { printed = printed; desk_state = s; held = new }) p.front rest p.answered
-    (piece_open printed s old new rest unbroken is))
+    subst (λ xs. PieceAnswered a xs (holding b new)) (sym p.whole) (piece_join a b (holding b new) p.front rest p.answered (piece_open b new rest unbroken is))

@@ -22,6 +22,12 @@ pub record Splits (input : List ℕ) (lines : List (List ℕ)) (rest : List ℕ)
   pub unbroken : All Unbroken lines
   pub open_end : Unbroken rest
 
+-- lines that ended in an input, the first of it
+pub record FirstLines (input : List ℕ) (lines : List (List ℕ)) : Type 0 where
+  pub rest : List ℕ
+  pub whole : input ≡ with_newlines lines ++ rest
+  pub unbroken : All Unbroken lines
+
 -- the rest is a line of its own, unless there is none
 abbrev pub last_line : List ℕ → List (List ℕ)
 last_line [] = []

@@ -1,15 +1,14 @@
 // A whole input, from the first line to the last.
 #![tactic(auto, using(crate::proofs::OneTranscript::one_transcript, crate::proofs::Cutting::lines_split, crate::proofs::Cutting::all_split))]
 
-ghost use Rattle.std.specs.Prelude.{◌≡◌, ◌≢◌, ◌+◌, ◌≤◌, take, IfErr, IfOk, OnOk};
+ghost use Rattle.std.specs.Prelude.{◌≡◌, ◌≢◌, ◌+◌, ◌≤◌, take, IfErr, IfOk, OnErr, OnOk};
 ghost use Rattle.std.specs.IoError.{error_kind};
-ghost use Rattle.std.specs.Io.KnownBytes.{Consumes, IsAtEnd};
-ghost use Rattle.stream.specs.Served.{Served};
+ghost use Rattle.std.specs.Io.KnownBytes.{Consumes, IsAtEnd, Keeps};
+ghost use Rattle.stream.specs.Served.{Served, ServedInPart};
 ghost use Rattle.stream.specs.Transcripts.{OneTranscript};
 ghost use Rattle.stream.specs.Inputs.{AllSplit, SplitLines};
 
 use crate::sessions::Session;
-use answers::writing::ROOM;
 use book::books::Reusable;
 use std::io;
 use std::io::{ErrorKind, Read, Write};
@@ -22,6 +21,7 @@ fn next_piece<R: Read>(input: &mut R, piece: &mut [u8; PIECE]) -> io::Result<usi
     ensures within { IfOk result (λ n. n ≤ 8192) }
     ensures read { IfOk result (λ n. Consumes (R.remaining input.old) (R.remaining input.new) (take n piece.new)) }
     ensures end { IfOk result (λ n. n ≡ 0 → IsAtEnd (R.remaining input.new)) }
+    ensures kept { OnErr result (Keeps (R.remaining input.old) (R.remaining input.new)) }
     ensures again { IfErr result (λ e. error_kind e ≢ ErrorKind.Interrupted) }
 {
     for _ in 0..u64::MAX {
@@ -38,14 +38,16 @@ fn next_piece<R: Read>(input: &mut R, piece: &mut [u8; PIECE]) -> io::Result<usi
 }
 
 /// Answers the lines of an input until it ends. Answers go out before the next piece is read, so that whoever waits for one has it.
-/// An error is the reader's or the writer's, and ends it; an interrupted read is tried again. The laws beside it are of the words
-/// that it is told in: no lines have two transcripts, and every input falls into lines in one way.
+/// An error is the reader's or the writer's, and ends it: a front of the answers to what was read has been written. An interrupted
+/// read or write is tried again. The laws beside it are of the words that it is told in: no lines have two transcripts, and every
+/// input falls into lines in one way.
 pub fn serve<B: Reusable, R: Read, W: Write>(
     book: &mut B,
     input: &mut R,
     output: &mut W,
 ) -> io::Result<()>
     ensures served { OnOk result (Served (R.remaining input.old) (W.contents output.old) (W.contents output.new) (B.meaning book.old) (B.meaning book.new)) }
+    ensures failed { OnErr result (ServedInPart (R.remaining input.old) (R.remaining input.new) (W.contents output.old) (W.contents output.new) (B.meaning book.old) (B.meaning book.new)) }
     ensures once { OneTranscript }
     ensures lines { SplitLines }
     ensures split { AllSplit }
@@ -60,12 +62,4 @@ pub fn serve<B: Reusable, R: Read, W: Write>(
         session.take_piece(book, output, &piece[..n])?;
     }
     Err(ErrorKind::Other.into())
-}
-
-/// How many bytes `serve` holds beside the book: 11,320 for a session, which is the house, the line that has not ended and the
-/// answers not written yet; 8,192 for a piece of the input; and 97 for an answer with its newline.
-pub fn bytes_held() -> usize
-    ensures { result ≡ 11320 + 8192 + 97 }
-{
-    size_of::<Session>() + PIECE + (ROOM + 1)
 }

@@ -1,10 +1,10 @@
 // A session: the desk, with what it holds of its input and of its output.
-ghost use Rattle.std.specs.Prelude.{◌≡◌, ℕ, List, Option, OnOk};
+ghost use Rattle.std.specs.Prelude.{◌≡◌, ℕ, List, Option, false, true, is_err, IfErr, IsErr, IsErrAnd, OnErr, OnOk};
+ghost use Rattle.std.specs.IoError.{error_kind};
 ghost use Rattle.book.specs.Ledgers.{Ledger};
 ghost use Rattle.desk.specs.Desks.{desk_state};
-ghost use Rattle.stream.specs.Held.{InputClosed, LineEnded, Flushed, PieceTaken, AnswerPrinted, PieceAnswered, at_first};
-ghost use Rattle.stream.specs.Served.{Finished};
-ghost use Rattle.stream.specs.Sessions.{printed, view_of};
+ghost use Rattle.stream.specs.Held.{AnsweredUpTo, AnswerPrinted, AnswersSent, Finished, Flushed, InputClosed, LineEnded, PieceAnswered, PieceTaken, WriteFailed, at_first};
+ghost use Rattle.stream.specs.Sessions.{has_failed, unsent_bytes, view_of};
 
 use crate::pending::Pending;
 use crate::unsent::Unsent;
@@ -13,7 +13,7 @@ use book::books::Reusable;
 use desk::desks::Desk;
 use memchr::memchr;
 use std::io;
-use std::io::Write;
+use std::io::{ErrorKind, Write};
 
 const NEWLINE: u8 = b'\n';
 
@@ -26,34 +26,47 @@ fn print_answer<B: Reusable, W: Write>(
     writer: &mut W,
     line: &[u8],
 ) -> io::Result<()>
-    ensures { let before = printed (W.contents writer.old) unsent.old in
-        let after = printed (W.contents writer.new) unsent.new in
-        let state = desk_state desk.old (B.meaning book.old) in
-        OnOk result (AnswerPrinted line.now state before after (desk_state desk.new (B.meaning book.new))) }
+    ensures printed { let before = desk_state desk.old (B.meaning book.old) in
+        let after = desk_state desk.new (B.meaning book.new) in
+        OnOk result (AnswerPrinted line.now before (W.contents writer.old) (W.contents writer.new) (unsent_bytes unsent.old) (unsent_bytes unsent.new) after) }
+    ensures failed { let before = desk_state desk.old (B.meaning book.old) in
+        let after = desk_state desk.new (B.meaning book.new) in
+        OnErr result ((rest : List ℕ) × AnswerPrinted line.now before (W.contents writer.old) (W.contents writer.new) (unsent_bytes unsent.old) rest after) }
 {
     let mut answer = [NEWLINE; ROOM + 1];
     let n = desk.respond(book, line, &mut answer).unwrap();
     unsent.put(writer, &answer[..=n])
 }
 
-/// A desk with what it holds of an input that has not ended and of answers not written yet.
+/// A desk with what it holds of an input that has not ended and of answers not written yet. After an error it answers nothing any
+/// more: some of its answers may be lost.
 #[derive(Drop)]
 pub struct Session {
     desk: Desk,
     pending: Pending,
     unsent: Unsent,
+    failed: bool,
 }
 
 impl Session {
     /// A session before any input.
     pub fn new() -> Session
-        ensures { (contents : Option (List ℕ)) (m : Ledger) → view_of result contents m ≡ at_first contents m }
+        ensures first { (contents : Option (List ℕ)) (m : Ledger) → view_of result contents m ≡ at_first contents m }
+        ensures working { has_failed result ≡ false }
     {
         Session {
             desk: Desk::new(),
             pending: Pending::new(),
             unsent: Unsent::new(),
+            failed: false,
         }
+    }
+
+    /// Whether a call has failed: each further one is refused.
+    pub fn has_failed(&self) -> bool
+        ensures { result ≡ has_failed self.now }
+    {
+        self.failed
     }
 
     // The line ends with these bytes, and is answered. One that stands whole in the piece is not copied.
@@ -63,9 +76,12 @@ impl Session {
         writer: &mut W,
         bytes: &[u8],
     ) -> io::Result<()>
-        ensures { let before = view_of self.old (W.contents writer.old) (B.meaning book.old) in
+        ensures ended { let before = view_of self.old (W.contents writer.old) (B.meaning book.old) in
             let after = view_of self.new (W.contents writer.new) (B.meaning book.new) in
             OnOk result (LineEnded before bytes.now after) }
+        ensures failed { let before = view_of self.old (W.contents writer.old) (B.meaning book.old) in
+            let after = view_of self.new (W.contents writer.new) (B.meaning book.new) in
+            OnErr result (WriteFailed after (LineEnded before bytes.now)) }
     {
         if self.pending.line().is_empty() {
             return print_answer(&mut self.desk, &mut self.unsent, book, writer, bytes);
@@ -84,9 +100,12 @@ impl Session {
         writer: &mut W,
         piece: &[u8],
     ) -> io::Result<()>
-        ensures { let before = view_of self.old (W.contents writer.old) (B.meaning book.old) in
+        ensures answered { let before = view_of self.old (W.contents writer.old) (B.meaning book.old) in
             let after = view_of self.new (W.contents writer.new) (B.meaning book.new) in
             OnOk result (PieceAnswered before piece.now after) }
+        ensures failed { let before = view_of self.old (W.contents writer.old) (B.meaning book.old) in
+            let after = view_of self.new (W.contents writer.new) (B.meaning book.new) in
+            OnErr result ((rest : List ℕ) × WriteFailed after (AnsweredUpTo before piece.now rest)) }
     {
         let mut rest = piece;
         while let Some(end) = memchr(NEWLINE, rest) {
@@ -99,9 +118,12 @@ impl Session {
 
     // Answers what follows the last newline, if anything does.
     fn close<B: Reusable, W: Write>(&mut self, book: &mut B, writer: &mut W) -> io::Result<()>
-        ensures { let before = view_of self.old (W.contents writer.old) (B.meaning book.old) in
+        ensures closed { let before = view_of self.old (W.contents writer.old) (B.meaning book.old) in
             let after = view_of self.new (W.contents writer.new) (B.meaning book.new) in
             OnOk result (InputClosed before after) }
+        ensures failed { let before = view_of self.old (W.contents writer.old) (B.meaning book.old) in
+            let after = view_of self.new (W.contents writer.new) (B.meaning book.new) in
+            OnErr result (WriteFailed after (InputClosed before)) }
     {
         if self.pending.line().is_empty() {
             return Ok(());
@@ -109,39 +131,125 @@ impl Session {
         self.end_line(book, writer, &[])
     }
 
-    /// Hands to the writer all that was printed, and asks it to pass it on. An error is the writer's.
-    pub fn flush<W: Write>(&mut self, writer: &mut W) -> io::Result<()>
-        ensures { OnOk result ((m : Ledger) →
-            let before = view_of self.old (W.contents writer.old) m in
-            Flushed before (W.contents writer.new) (view_of self.new (W.contents writer.new) m)) }
+    // Hands to the writer all that was printed, and asks it to pass it on.
+    fn send<W: Write>(&mut self, writer: &mut W) -> io::Result<()>
+        ensures flushed { OnOk result ((m : Ledger) →
+            Flushed (view_of self.old (W.contents writer.old) m) (view_of self.new (W.contents writer.new) m)) }
+        ensures failed { OnErr result ((m : Ledger) →
+            WriteFailed (view_of self.new (W.contents writer.new) m) (AnswersSent (view_of self.old (W.contents writer.old) m))) }
     {
         self.unsent.send(writer)?;
         writer.flush()
     }
 
+    // Answers a piece and lets no answer wait.
+    fn answer_and_send<B: Reusable, W: Write>(
+        &mut self,
+        book: &mut B,
+        writer: &mut W,
+        piece: &[u8],
+    ) -> io::Result<()>
+        ensures taken { let before = view_of self.old (W.contents writer.old) (B.meaning book.old) in
+            let after = view_of self.new (W.contents writer.new) (B.meaning book.new) in
+            OnOk result (PieceTaken before piece.now after) }
+        ensures failed { let before = view_of self.old (W.contents writer.old) (B.meaning book.old) in
+            let after = view_of self.new (W.contents writer.new) (B.meaning book.new) in
+            OnErr result ((rest : List ℕ) × WriteFailed after (AnsweredUpTo before piece.now rest)) }
+    {
+        self.answer_piece(book, writer, piece)?;
+        self.send(writer)
+    }
+
+    // Answers the last line and lets no answer wait.
+    fn close_and_send<B: Reusable, W: Write>(
+        &mut self,
+        book: &mut B,
+        writer: &mut W,
+    ) -> io::Result<()>
+        ensures finished { let before = view_of self.old (W.contents writer.old) (B.meaning book.old) in
+            let after = view_of self.new (W.contents writer.new) (B.meaning book.new) in
+            OnOk result (Finished before after) }
+        ensures failed { let before = view_of self.old (W.contents writer.old) (B.meaning book.old) in
+            let after = view_of self.new (W.contents writer.new) (B.meaning book.new) in
+            OnErr result (WriteFailed after (InputClosed before)) }
+    {
+        self.close(book, writer)?;
+        self.send(writer)
+    }
+
+    // A session that has failed takes no further call.
+    fn check(&self) -> io::Result<()>
+        ensures refused { is_err result ≡ has_failed self.now }
+        ensures kind { IfErr result (λ e. error_kind e ≡ ErrorKind.Other) }
+    {
+        if self.failed {
+            return Err(ErrorKind::Other.into());
+        }
+        Ok(())
+    }
+
+    /// Hands to the writer all that was printed, and asks it to pass it on. An error is the writer's, and ends the session: from then on
+    /// each call is refused with `Other`, and nothing changes.
+    pub fn flush<W: Write>(&mut self, writer: &mut W) -> io::Result<()>
+        ensures flushed { OnOk result ((m : Ledger) →
+            Flushed (view_of self.old (W.contents writer.old) m) (view_of self.new (W.contents writer.new) m)) }
+        ensures failed { has_failed self.old ≡ false → OnErr result ((m : Ledger) →
+            WriteFailed (view_of self.new (W.contents writer.new) m) (AnswersSent (view_of self.old (W.contents writer.old) m))) }
+        ensures ends { has_failed self.new ≡ is_err result }
+        ensures refused { has_failed self.old ≡ true → IsErrAnd result (λ e. error_kind e ≡ ErrorKind.Other) }
+        ensures unchanged { has_failed self.old ≡ true → (m : Ledger) →
+            view_of self.new (W.contents writer.new) m ≡ view_of self.old (W.contents writer.old) m }
+    {
+        self.check()?;
+        let flushed = self.send(writer);
+        self.failed = flushed.is_err();
+        flushed
+    }
+
     /// Takes a piece of the input and lets no answer wait: whoever gave the piece has the answers before the next one is asked for. An
-    /// error is the writer's.
+    /// error is the writer's, and ends the session: the lines that ended in a front of the piece have been answered, and the writer has a
+    /// front of the answers. From then on each call is refused with `Other`, and nothing changes.
     pub fn take_piece<B: Reusable, W: Write>(
         &mut self,
         book: &mut B,
         writer: &mut W,
         piece: &[u8],
     ) -> io::Result<()>
-        ensures { let before = view_of self.old (W.contents writer.old) (B.meaning book.old) in
+        ensures taken { let before = view_of self.old (W.contents writer.old) (B.meaning book.old) in
             let after = view_of self.new (W.contents writer.new) (B.meaning book.new) in
-            OnOk result (PieceTaken before piece.now (W.contents writer.new) after) }
+            OnOk result (PieceTaken before piece.now after) }
+        ensures failed { let before = view_of self.old (W.contents writer.old) (B.meaning book.old) in
+            let after = view_of self.new (W.contents writer.new) (B.meaning book.new) in
+            has_failed self.old ≡ false → OnErr result ((rest : List ℕ) × WriteFailed after (AnsweredUpTo before piece.now rest)) }
+        ensures ends { has_failed self.new ≡ is_err result }
+        ensures refused { has_failed self.old ≡ true → IsErrAnd result (λ e. error_kind e ≡ ErrorKind.Other) }
+        ensures unchanged { let before = view_of self.old (W.contents writer.old) (B.meaning book.old) in
+            has_failed self.old ≡ true → view_of self.new (W.contents writer.new) (B.meaning book.new) ≡ before }
     {
-        self.answer_piece(book, writer, piece)?;
-        self.flush(writer)
+        self.check()?;
+        let taken = self.answer_and_send(book, writer, piece);
+        self.failed = taken.is_err();
+        taken
     }
 
-    /// Answers what follows the last newline, if anything does: the input has ended. An error is the writer's.
+    /// Answers what follows the last newline, if anything does: the input has ended. An error is the writer's, and ends the session: the
+    /// line has been answered, and the writer has a front of the answers. From then on each call is refused with `Other`, and nothing
+    /// changes.
     pub fn finish<B: Reusable, W: Write>(&mut self, book: &mut B, writer: &mut W) -> io::Result<()>
-        ensures { let before = view_of self.old (W.contents writer.old) (B.meaning book.old) in
+        ensures finished { let before = view_of self.old (W.contents writer.old) (B.meaning book.old) in
             let after = view_of self.new (W.contents writer.new) (B.meaning book.new) in
-            OnOk result (Finished before (W.contents writer.new) after) }
+            OnOk result (Finished before after) }
+        ensures failed { let before = view_of self.old (W.contents writer.old) (B.meaning book.old) in
+            let after = view_of self.new (W.contents writer.new) (B.meaning book.new) in
+            has_failed self.old ≡ false → OnErr result (WriteFailed after (InputClosed before)) }
+        ensures ends { has_failed self.new ≡ is_err result }
+        ensures refused { has_failed self.old ≡ true → IsErrAnd result (λ e. error_kind e ≡ ErrorKind.Other) }
+        ensures unchanged { let before = view_of self.old (W.contents writer.old) (B.meaning book.old) in
+            has_failed self.old ≡ true → view_of self.new (W.contents writer.new) (B.meaning book.new) ≡ before }
     {
-        self.close(book, writer)?;
-        self.flush(writer)
+        self.check()?;
+        let finished = self.close_and_send(book, writer);
+        self.failed = finished.is_err();
+        finished
     }
 }
