@@ -5,7 +5,7 @@ use crate::ticks::Tick;
 /// A band as it is described, unchecked. The first band has no start: it reaches down without end.
 #[derive(Clone, Copy)]
 pub struct Band {
-    /// The least price of the band, in points.
+    /// Where the band begins, in points.
     pub start: Option<i64>,
     /// In points.
     pub tick: i64,
@@ -14,7 +14,7 @@ pub struct Band {
 /// A later band: its prices begin at its start.
 #[derive(Clone, Copy)]
 pub struct LaterBand {
-    /// The least price of the band, in points.
+    /// Where the band begins, in points.
     pub start: i64,
     /// The multiples of which are lawful in the band.
     pub tick: Tick,

@@ -21,23 +21,23 @@ pub trait Describes<L: Ladder> {
     // What is wrong with the description, if anything.
     ghost fault: { Self → Option Fault };
 
-    // That it is lawful, in the words of the rules.
+    // That it is lawful: of ticks and of bands in the words of the rules.
     ghost keeps_rules: { Self → Type 0 };
 
     // The lawful prices that are described.
     ghost prices: { Self → ℤ → Bool };
 
-    // That these are the lawful prices described, in the words of the rules.
+    // That these are the lawful prices described, likewise.
     ghost lawful_prices: { Self → (ℤ → Bool) → Type 0 };
 
     /// The ladder with these lawful prices; the error is the first fault of the description.
     fn checked(&self) -> Result<L, LadderFault>
         ensures { TakenUnless (fault self.now) (λ l. (v : ℤ) → L.Ladder.holds l v ≡ prices self.now v) result };
 
-    // Nothing is wrong exactly if the rules are kept.
+    // Nothing is wrong exactly if it is lawful.
     ghost decided: { (d : Self) → Decides (is_none (fault d)) (keeps_rules d) };
 
-    // Where the rules are kept, the prices that are described are those of which the rules speak.
+    // Where the description is lawful, the prices are those.
     ghost told: { (d : Self) → keeps_rules d → lawful_prices d (prices d) };
 }
 
