@@ -22,7 +22,7 @@ use Rattle.house.specs.declared.series.Ruling.{Ruling}
 use Rattle.house.specs.declared.series.Series.{Series}
 use Rattle.house.proofs.OnPath.{in_time}
 use Rattle.house.proofs.Paths.{earlier}
-use Rattle.house.proofs.StepFinds.{found_finds, not_found_finds}
+use Rattle.house.proofs.StepFinds.{found_is, none_found}
 
 -- ---- the first place that finds
 
@@ -89,7 +89,7 @@ module _ (P : ℕ → ℤ → Bool) (near : (n : ℕ) (z : ℤ) → Near (P n) z
   ps = row_of x.series ed
 
   none_finds : FoundFrom find 1 ps None → (k : ℕ) (q : Place) (p : ℤ) → at ps k ≡ Some q → PlaceFinds P (price_of u) x q p → ⊥
-  none_finds none k q p e = not_found_finds P near (price_of u) x q p (none k q e)
+  none_finds none k q p e = none_found P near (price_of u) x q p (none k q e)
 
   stands_at : (s : Settlement) → FoundFrom find 1 ps (Some s) → StandsAt (PlaceFinds P (price_of u) x) ps s
   stands_at s h = record {
@@ -98,8 +98,8 @@ module _ (P : ℕ → ℤ → Bool) (near : (n : ℕ) (z : ℤ) → Near (P n) z
     stands = h.stands;
     counted = h.counted;
     step = h.step;
-    price = found_finds P near (price_of u) x h.place s.price h.price;
-    before = λ k q p l e. not_found_finds P near (price_of u) x q p (h.before k q l e);
+    price = found_is P near (price_of u) x h.place s.price h.price;
+    before = λ k q p l e. none_found P near (price_of u) x q p (h.before k q l e);
   }
 
   refusal : is_first x.series.ruling ≡ false → FoundFrom find 1 ps None → Refused P ed x u (origin ed x u)

@@ -26,7 +26,7 @@ IsNearestMiddle lawful quote p =
 abbrev pub IsLess : Option ℤ → Option ℤ → ℤ → Type 0
 IsLess reference spread p = (r : ℤ) × (d : ℤ) × (reference ≡ Some r) × (spread ≡ Some d) × (p ≡ r -ℤ d)
 
--- the step finds p on the lawful prices of the series' ladder, with the reference's price, if it has one, and the figures v of the
+-- the step finds p on the lawful prices of the series' ladder, with the reference's price, where there is one, and the figures of the
 -- step's window
 abbrev pub FindsPrice : (ℤ → Bool) → Option ℤ → Series → Values → Step → ℤ → Type 0
 FindsPrice lawful reference s v Auction p = v.auction ≡ Some p
