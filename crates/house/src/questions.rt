@@ -49,9 +49,9 @@ impl<L: LadderSet> House<L> {
         question.answer()
     }
 
-    // The answer to the question, or the refusal that comes before it. Apart from `settle`, whose clauses `path` and `meaning`
-    // rest on this one, so that a fault in the answer is told here. Series and edition stay two parameters, as they are two
-    // words of a line.
+    // The answer to the question, or the refusal that comes before it. Apart from `settle`, whose clauses `path`, `meaning` and
+    // `reach` rest on this one, so that a fault in the answer is told here. Series and edition stay two parameters, as they are
+    // two words of a line.
     fn answer_to<B: Book>(
         &self,
         book: &B,
