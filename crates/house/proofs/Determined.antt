@@ -9,7 +9,8 @@ use Rattle.rows.specs.declared.places.Place.{Place}
 use Rattle.house.specs.Answers.{Answer, origin_of, price_of, row_of, some_refers, station}
 use Rattle.house.specs.ByPath.{MayAsk}
 use Rattle.house.specs.Calls.{State}
-use Rattle.house.specs.Found.{Station, found}
+use Rattle.house.specs.FindsPrice.{PlaceFinds}
+use Rattle.house.specs.Found.{Station}
 use Rattle.house.specs.Meaning.{AnswerOf, AreReferences, ComesFrom, Explained, OneAnswer, Refused, RuledFirst, Settles, StandsAt, TellsAnswer, is_first, is_refused}
 use Rattle.house.specs.Questions.{is_open, or_no_price}
 use Rattle.house.specs.Rolls.{is_listed}
@@ -17,6 +18,7 @@ use Rattle.house.specs.declared.answers.Settlement.{Settlement}
 use Rattle.house.specs.declared.faults.HouseFault.{HouseFault}
 use Rattle.house.specs.declared.series.Ruling.{Ruling}
 use Rattle.house.specs.declared.series.Series.{Series}
+use Rattle.house.proofs.StepFinds.{place_finds_once}
 
 -- ---- settlements
 
@@ -32,23 +34,19 @@ one_ruled o s t h k =
 not_unruled : (o : Option Ruling) (s : Settlement) → RuledFirst o s → is_first o ≡ false → ⊥
 not_unruled o s h unruled = both_ways (is_first o) unruled (ap is_first h.stands ∙ h.first)
 
-module _ (find : Place → Option ℤ) (ps : List Place) where
-  -- the place at which a settlement stands does not find nothing
-  found_there : (s : Settlement) (h : StandsAt find ps s) → find h.place ≡ None → ⊥
-  found_there s h none = none-some s.price (sym none ∙ h.price)
-
-  one_stands : (s t : Settlement) → StandsAt find ps s → StandsAt find ps t → s ≡ t
-  one_stands s t h k = by (cases_order h.position k.position)
-    where
-      by : (h.position ≡ k.position) ⊎ ((h.position < k.position) ⊎ (k.position < h.position)) → s ≡ t
-      by (inl e) =
-          let same = same_Some h.place k.place (sym h.stands ∙ ap (at ps) e ∙ k.stands) in
-          same_settlement s t
-          (same_Some s.price t.price (sym h.price ∙ ap find same ∙ k.price))
-          (sym h.step ∙ ap (λ (p : Place). p.step) same ∙ k.step)
-          (h.counted ∙ ap (λ n. n + 1) e ∙ sym k.counted)
-      by (inr (inl l)) = absurd (found_there s h (k.before h.position h.place l h.stands))
-      by (inr (inr l)) = absurd (found_there t k (h.before k.position k.place l k.stands))
+-- where a place finds no two prices, no two settlements stand at the places of a row
+one_stands : (Finds : Place → ℤ → Type 0) → ((q : Place) (p r : ℤ) → Finds q p → Finds q r → p ≡ r) → (ps : List Place) (s t : Settlement) → StandsAt Finds ps s → StandsAt Finds ps t → s ≡ t
+one_stands Finds once ps s t h k = by (cases_order h.position k.position)
+  where
+    by : (h.position ≡ k.position) ⊎ ((h.position < k.position) ⊎ (k.position < h.position)) → s ≡ t
+    by (inl e) =
+        let same = same_Some h.place k.place (sym h.stands ∙ ap (at ps) e ∙ k.stands) in
+        same_settlement s t
+        (once k.place s.price t.price (subst (λ (q : Place). Finds q s.price) same h.price) k.price)
+        (sym h.step ∙ ap (λ (p : Place). p.step) same ∙ k.step)
+        (h.counted ∙ ap (λ n. n + 1) e ∙ sym k.counted)
+    by (inr (inl l)) = absurd (k.before h.position h.place s.price l h.stands h.price)
+    by (inr (inr l)) = absurd (h.before k.position k.place t.price l k.stands k.price)
 
 -- ---- one series
 
@@ -72,13 +70,13 @@ module _ (P : ℕ → ℤ → Bool) (ed : Edition) (x : Station) (u : Option Ans
   -- a series that is refused does not settle
   not_both : (s : Settlement) (o : ℕ) → Settles P ed x u (Ok s) → Refused P ed x u o → ⊥
   not_both s o (inl f) k = not_unruled x.series.ruling s f k.unruled
-  not_both s o (inr f) k = found_there (found P (price_of u) x) ps s f.1 (k.nothing f.1.position f.1.place f.1.stands)
+  not_both s o (inr f) k = k.nothing f.1.position f.1.place s.price f.1.stands f.1.price
 
   one_settled : (s t : Settlement) → Settles P ed x u (Ok s) → Settles P ed x u (Ok t) → s ≡ t
   one_settled s t (inl f) (inl g) = one_ruled x.series.ruling s t f g
   one_settled s t (inl f) (inr g) = absurd (not_unruled x.series.ruling s f g.0)
   one_settled s t (inr f) (inl g) = absurd (not_unruled x.series.ruling t g f.0)
-  one_settled s t (inr f) (inr g) = one_stands (found P (price_of u) x) ps s t f.1 g.1
+  one_settled s t (inr f) (inr g) = one_stands (PlaceFinds P (price_of u) x) (place_finds_once P (price_of u) x) ps s t f.1 g.1
 
   one_settles : (a b : Answer) → Settles P ed x u a → Settles P ed x u b → a ≡ b
   one_settles (Ok s) (Ok t) h k = ap Ok (one_settled s t h k)

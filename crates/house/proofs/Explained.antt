@@ -2,14 +2,16 @@
 use Rattle.std.proofs.Common.{◌≡◌, ℕ, zero, suc, ◌+◌, ◌<◌, Bool, true, false, ◌&&◌, List, [], ◌∷◌, map, ℤ, nat_abs, Some, None, Ok, Err, Option, Result, refl, ap, ◌∙◌, subst, inl, inr, arith}
 use Rattle.std.proofs.lemmas.Bool.{and_left, and_right, cond-false, cond-true, cond_both}
 use Rattle.book.specs.Ledgers.{Ledger}
+use Rattle.ladders.specs.Rounding.{Near}
 use Rattle.rows.specs.Codes.{at}
 use Rattle.rows.specs.declared.places.Edition.{Edition}
 use Rattle.rows.specs.declared.places.Place.{Place}
 use Rattle.rows.specs.declared.steps.Step as steps
 use Rattle.house.specs.Answers.{Answer, answered, answer_at, behind, by_row, first_found, or_later, or_refused, origin, origin_of, price_of, references, row_of, ruled_first, path_answer, some_refers, station}
 use Rattle.house.specs.Calls.{State, demand}
+use Rattle.house.specs.FindsPrice.{PlaceFinds}
 use Rattle.house.specs.Found.{Station, found}
-use Rattle.house.specs.Meaning.{AnswerOf, AreReferences, Explained, Refused, Settles, is_first, is_refused}
+use Rattle.house.specs.Meaning.{AnswerOf, AreReferences, Explained, Refused, Settles, StandsAt, is_first, is_refused}
 use Rattle.house.specs.Questions.{is_open, or_no_price, settle_answer}
 use Rattle.house.specs.Rolls.{is_listed}
 use Rattle.house.specs.Series.{lawful_series}
@@ -20,10 +22,11 @@ use Rattle.house.specs.declared.series.Ruling.{Ruling}
 use Rattle.house.specs.declared.series.Series.{Series}
 use Rattle.house.proofs.OnPath.{in_time}
 use Rattle.house.proofs.Paths.{earlier}
+use Rattle.house.proofs.StepFinds.{found_is, none_found}
 
 -- ---- the first place that finds
 
--- as `StandsAt`, with places counted from k
+-- as `StandsAt` of what a place computes, with places counted from k
 record StandsFrom (find : Place → Option ℤ) (k : ℕ) (ps : List Place) (s : Settlement) : Type 0 where
   position : ℕ
   place : Place
@@ -78,12 +81,26 @@ first_explained find k (p ∷ ps) = by (find p) (first_found find (k + 1) ps) re
 
 -- ---- one series
 
-module _ (P : ℕ → ℤ → Bool) (ed : Edition) (x : Station) (u : Option Answer) where
+module _ (P : ℕ → ℤ → Bool) (near : (n : ℕ) (z : ℤ) → Near (P n) z) (ed : Edition) (x : Station) (u : Option Answer) where
   abbrev find : Place → Option ℤ
   find p = found P (price_of u) x p
 
   abbrev ps : List Place
   ps = row_of x.series ed
+
+  none_finds : FoundFrom find 1 ps None → (k : ℕ) (q : Place) (p : ℤ) → at ps k ≡ Some q → PlaceFinds P (price_of u) x q p → ⊥
+  none_finds none k q p e = none_found P near (price_of u) x q p (none k q e)
+
+  stands_at : (s : Settlement) → FoundFrom find 1 ps (Some s) → StandsAt (PlaceFinds P (price_of u) x) ps s
+  stands_at s h = record {
+    position = h.position;
+    place = h.place;
+    stands = h.stands;
+    counted = h.counted;
+    step = h.step;
+    price = found_is P near (price_of u) x h.place s.price h.price;
+    before = λ k q p l e. none_found P near (price_of u) x q p (h.before k q l e);
+  }
 
   refusal : is_first x.series.ruling ≡ false → FoundFrom find 1 ps None → Refused P ed x u (origin ed x u)
   refusal unruled none =
@@ -92,7 +109,7 @@ module _ (P : ℕ → ℤ → Bool) (ed : Edition) (x : Station) (u : Option Ans
       (λ alone. own (and_left (some_refers ps) (is_refused u) alone))
     where
       own : (some_refers ps && is_refused u) ≡ false → Refused P ed x u x.number
-      own is = record { unruled = unruled; nothing = none; from = inr (is, refl) }
+      own is = record { unruled = unruled; nothing = none_finds none; from = inr (is, refl) }
 
       settles : is_refused u ≡ false → Refused P ed x u x.number
       settles is = own (and_right (some_refers ps) (is_refused u) is)
@@ -100,15 +117,14 @@ module _ (P : ℕ → ℤ → Bool) (ed : Edition) (x : Station) (u : Option Ans
       by : some_refers ps ≡ true → (v : Option Answer) → u ≡ v → Refused P ed x u (origin_of x.number v)
       by uses None is = settles (ap is_refused is)
       by uses (Some (Ok s)) is = settles (ap is_refused is)
-      by uses (Some (Err o)) is = record { unruled = unruled; nothing = none; from = inl (uses, is) }
+      by uses (Some (Err o)) is = record { unruled = unruled; nothing = none_finds none; from = inl (uses, is) }
 
   by_row_explained : is_first x.series.ruling ≡ false → Settles P ed x u (by_row P ed x u)
   by_row_explained unruled = by (first_found find 1 ps) (first_explained find 1 ps)
     where
       by : (o : Option Settlement) → FoundFrom find 1 ps o → Settles P ed x u (or_refused o (origin ed x u))
       by None none = refusal unruled none
-      by (Some s) h =
-          inr (unruled, record { position = h.position; place = h.place; stands = h.stands; counted = h.counted; step = h.step; price = h.price; before = h.before })
+      by (Some s) h = inr (unruled, stands_at s h)
 
   answered_explained : Settles P ed x u (answered P ed x u)
   answered_explained = by x.series.ruling refl
@@ -122,9 +138,9 @@ module _ (P : ℕ → ℤ → Bool) (ed : Edition) (x : Station) (u : Option Ans
 
 -- ---- along the path
 
-path_explained : (P : ℕ → ℤ → Bool) (ed : Edition) (x : Station) (xs : List Station) → AnswerOf P ed x xs (path_answer P ed x xs)
-path_explained P ed x [] = answered_explained P ed x None
-path_explained P ed x (y ∷ ys) = (path_answer P ed y ys, path_explained P ed y ys, answered_explained P ed x (Some (path_answer P ed y ys)))
+path_explained : (P : ℕ → ℤ → Bool) → ((n : ℕ) (z : ℤ) → Near (P n) z) → (ed : Edition) (x : Station) (xs : List Station) → AnswerOf P ed x xs (path_answer P ed x xs)
+path_explained P near ed x [] = answered_explained P near ed x None
+path_explained P near ed x (y ∷ ys) = (path_answer P ed y ys, path_explained P near ed y ys, answered_explained P near ed x (Some (path_answer P ed y ys)))
 
 -- so many steps as the first number end at a series that has no reference, since each reference is earlier
 behind_explained : (all : ℕ → Series) → ((n : ℕ) → lawful_series n (all n) ≡ true) → (k : ℕ) (o : Option ℕ) → ((r : ℕ) → o ≡ Some r → r < k) → AreReferences all o (behind k all o)
@@ -136,8 +152,8 @@ behind_explained all lawful (suc k) (Some r) under =
 
 -- ---- what the house tells
 
-pub answer_explained : (P : ℕ → ℤ → Bool) (ed : Edition) (s : State) (m : Ledger) → ((k : ℕ) → lawful_series k (s.roll.series k) ≡ true) → (n : ℤ) (r : Result Settlement HouseFault) → r ≡ settle_answer P ed n s m → Explained P ed s m n r
-answer_explained P ed s m lawful n r is =
+pub answer_explained : (P : ℕ → ℤ → Bool) → ((n : ℕ) (z : ℤ) → Near (P n) z) → (ed : Edition) (s : State) (m : Ledger) → ((k : ℕ) → lawful_series k (s.roll.series k) ≡ true) → (n : ℤ) (r : Result Settlement HouseFault) → r ≡ settle_answer P ed n s m → Explained P ed s m n r
+answer_explained P near ed s m lawful n r is =
     let k = nat_abs n in
     let answer = or_no_price (answer_at P ed s m k) in
     let listed = demand (is_listed s.roll.count n) NoSuchSeries answer in
@@ -148,7 +164,7 @@ answer_explained P ed s m lawful n r is =
         numbers = references s.roll.series k;
         references = behind_explained s.roll.series lawful k (s.roll.series k).terms.reference (λ q so. earlier k (s.roll.series k) q (lawful k) so);
         answer = answer_at P ed s m k;
-        stands = path_explained P ed (station s m k) (map (station s m) (references s.roll.series k));
+        stands = path_explained P near ed (station s m k) (map (station s m) (references s.roll.series k));
         told = is ∙ in_time P ed s m n may;
       };
     }

@@ -5,6 +5,7 @@ mod Demands
 pub mod Looked
 mod RowWalk
 pub mod Paths
+mod StepFinds
 pub mod Explained
 pub mod Determined
 pub mod OnPath

@@ -11,8 +11,8 @@ use Rattle.rows.specs.declared.steps.Step.TheVariants.{Auction, Trade, Quote, Av
 use Rattle.house.specs.declared.series.Ruling as rulings
 use Rattle.house.specs.declared.series.Series.{Series}
 
--- all that the answer for a series rests on, beside its reference: its number, its terms and supplied values, and its
--- figures by window
+-- a series with what its answer rests on beside the lawful prices, the edition and the answer of its reference: its number, its
+-- terms and supplied values, and its figures by window
 pub record Station : Type 0 where
   pub number : ℕ
   pub series : Series

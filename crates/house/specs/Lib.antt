@@ -6,6 +6,7 @@ pub mod Calls
 pub mod ListedRoll
 pub mod Houses
 pub mod Found
+pub mod FindsPrice
 pub mod Answers
 pub mod Questions
 pub mod Reach

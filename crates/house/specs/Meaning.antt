@@ -8,7 +8,8 @@ use Rattle.rows.specs.declared.steps.Step as steps
 use Rattle.house.specs.Answers.{Answer, price_of, row_of, some_refers, station}
 use Rattle.house.specs.ByPath.{MayAsk}
 use Rattle.house.specs.Calls.{State}
-use Rattle.house.specs.Found.{Station, found}
+use Rattle.house.specs.FindsPrice.{PlaceFinds}
+use Rattle.house.specs.Found.{Station}
 use Rattle.house.specs.Questions.{is_open, or_no_price}
 use Rattle.house.specs.Rolls.{is_listed}
 use Rattle.house.specs.declared.answers.Settlement.{Settlement}
@@ -34,14 +35,14 @@ pub record RuledFirst (o : Option Ruling) (s : Settlement) : Type 0 where
   pub place : s.place ≡ 0
 
 -- a settlement is read off a position of the row: that place has the step and finds the price, and no earlier place finds one
-pub record StandsAt (find : Place → Option ℤ) (ps : List Place) (s : Settlement) : Type 0 where
+pub record StandsAt (Finds : Place → ℤ → Type 0) (ps : List Place) (s : Settlement) : Type 0 where
   pub position : ℕ
   pub place : Place
   pub stands : at ps position ≡ Some place
   pub counted : s.place ≡ position + 1
   pub step : place.step ≡ s.step
-  pub price : find place ≡ Some s.price
-  pub before : (k : ℕ) (q : Place) → k < position → at ps k ≡ Some q → find q ≡ None
+  pub price : Finds place s.price
+  pub before : (k : ℕ) (q : Place) (p : ℤ) → k < position → at ps k ≡ Some q → Finds q p → ⊥
 
 -- whether there is a reference and it is refused
 abbrev pub is_refused : Option Answer → Bool
@@ -59,14 +60,14 @@ ComesFrom ps reference n origin =
 -- a refusal: no ruling stands with the first mark, and no place of the row finds a price
 pub record Refused (lawful : ℕ → ℤ → Bool) (ed : Edition) (x : Station) (reference : Option Answer) (origin : ℕ) : Type 0 where
   pub unruled : is_first x.series.ruling ≡ false
-  pub nothing : (k : ℕ) (q : Place) → at (row_of x.series ed) k ≡ Some q → found lawful (price_of reference) x q ≡ None
+  pub nothing : (k : ℕ) (q : Place) (p : ℤ) → at (row_of x.series ed) k ≡ Some q → PlaceFinds lawful (price_of reference) x q p → ⊥
   pub from : ComesFrom (row_of x.series ed) reference x.number origin
 
 -- the answer of a series, with that of its reference: a settlement by a ruling with the first mark, else by the row, or a refusal
 abbrev pub Settles : (ℕ → ℤ → Bool) → Edition → Station → Option Answer → Answer → Type 0
 Settles lawful ed x reference (Ok s) =
     RuledFirst x.series.ruling s
-    ⊎ ((is_first x.series.ruling ≡ false) × StandsAt (found lawful (price_of reference) x) (row_of x.series ed) s)
+    ⊎ ((is_first x.series.ruling ≡ false) × StandsAt (PlaceFinds lawful (price_of reference) x) (row_of x.series ed) s)
 Settles lawful ed x reference (Err origin) = Refused lawful ed x reference origin
 
 -- ---- along the path

@@ -5,12 +5,12 @@ use Rattle.house.specs.Terms.{is_under}
 use Rattle.house.specs.declared.series.Series.{Series}
 use Rattle.house.specs.declared.terms.Terms.{Terms}
 
--- how many are listed, and the series of each number; a number from `count` on has the blank one
+-- how many are listed, and the series of each number; in a house every number from `count` on has the blank one
 pub record Roll : Type 0 where
   pub count : ℕ
   pub series : ℕ → Series
 
--- the first `count` places of a list
+-- a list's series by their numbers, blank past its end, of which `count` are listed
 abbrev pub roll : ℕ → List Series → Roll
 roll count slots = record { count = count; series = λ n. slice_index_or slots n blank }
 

@@ -1,6 +1,7 @@
 -- The worked prices: roundings, what a step finds, and what is answered, as one list; and what each of them says.
 use Rattle.std.specs.Prelude.{◌≡◌, ℕ, zero, suc, List, [], ◌∷◌, length, ℤ, pos, neg_ℤ, ◌+ℤ◌, Some, None, Ok, Err, Option, Result}
-use Rattle.book.specs.Figures.{empty, values}
+use Rattle.book.specs.Ledgers.{fresh}
+use Rattle.book.specs.declared.days.Day.{Day}
 use Rattle.book.specs.declared.figures.Sides.{Sides}
 use Rattle.book.specs.declared.figures.Values.{Values}
 use Rattle.ladders.specs.Fractions.{ceiling}
@@ -11,13 +12,16 @@ use Rattle.rows.specs.declared.families.Family.TheVariants.{LongBond, FollowingB
 use Rattle.rows.specs.declared.places.Edition.TheVariants.{Close}
 use Rattle.rows.specs.declared.steps.Step.{Step}
 use Rattle.rows.specs.declared.steps.Step.TheVariants as steps
-use Rattle.house.specs.Answers.{Answer, path_answer}
+use Rattle.house.specs.Calls.{State}
 use Rattle.house.specs.Faults.{house_number}
-use Rattle.house.specs.Found.{Station, finds}
-use Rattle.house.specs.Questions.{or_no_price}
-use Rattle.house.specs.Series.{bare_terms, blank, new_series}
+use Rattle.house.specs.Found.{finds}
+use Rattle.house.specs.Questions.{settle_answer}
+use Rattle.house.specs.Rolls.{Roll, none_listed, with_listed}
+use Rattle.house.specs.Series.{bare_terms, blank}
 use Rattle.house.specs.declared.answers.Settlement.{Settlement}
+use Rattle.house.specs.declared.faults.HouseFault.{HouseFault}
 use Rattle.house.specs.declared.faults.HouseFault.TheVariants.{NoPrice}
+use Rattle.house.specs.declared.phases.Phase.TheVariants.{Closed}
 use Rattle.house.specs.declared.series.Series.{Series}
 use Rattle.house.specs.declared.worked.Matter.{Matter}
 use Rattle.house.specs.declared.worked.Matter.TheVariants as matters
@@ -61,25 +65,26 @@ abbrev pub number_before : ℕ → Option ℕ
 number_before zero = None
 number_before (suc n) = Some n
 
--- a series of a family that refers to the one before, if there is one, with nothing entered or supplied
-abbrev pub bare : Family → ℕ → Station
-bare f n = record { number = n; series = new_series (bare_terms f (number_before n)); figures = λ w. values empty }
+-- the listed series of these families, each of which refers to the next: the last is listed first
+abbrev pub listed_bare : List Family → Roll
+listed_bare [] = none_listed
+listed_bare (f ∷ fs) = with_listed (bare_terms f (number_before (length fs))) (listed_bare fs)
 
--- such series of these families, each of which refers to the next
-abbrev pub bare_path : List Family → List Station
-bare_path [] = []
-bare_path (f ∷ fs) = bare f (length fs) ∷ bare_path fs
+-- a closed house in which nothing was supplied
+abbrev pub closed_with : List Family → State
+closed_with fs = record { phase = Closed; roll = listed_bare fs }
 
--- what is answered along the path is that settlement, or is refused with that number and origin
-abbrev pub AnswerIs : Answer → Result Settlement Refusal → Type 0
-AnswerIs answer (Ok s) = (answer ≡ Ok s) × (or_no_price answer ≡ Ok s)
-AnswerIs answer (Err r) = (answer ≡ Err r.origin) × (or_no_price answer ≡ Err (NoPrice r.origin)) × (house_number (NoPrice r.origin) ≡ r.number)
+-- the answer is that settlement, or the refusal of that number and origin
+abbrev pub AnswerIs : Result Settlement HouseFault → Result Settlement Refusal → Type 0
+AnswerIs answer (Ok s) = answer ≡ Ok s
+AnswerIs answer (Err r) = (answer ≡ Err (NoPrice r.origin)) × (house_number (NoPrice r.origin) ≡ r.number)
 
 abbrev pub Holds : WorkedPrice → Type 0
 Holds (cases.Rounding tick way fraction price) = RoundsTo way tick fraction.0 fraction.1 price
 Holds (cases.Finding tick step matter price) = found_by tick step matter ≡ Some price
 Holds (cases.Answer tick edition family references answer) =
-    AnswerIs (path_answer (λ l. multiple tick) edition (bare family (length references)) (bare_path references)) answer
+    (d : Day) (capacity : ℕ)
+    → AnswerIs (settle_answer (λ l. multiple tick) edition (pos (length references)) (closed_with (family ∷ references)) (fresh d capacity)) answer
 
 -- ---- the list
 

@@ -8,6 +8,6 @@ pub struct Settlement {
     pub price: i64,
     /// The step that found the price.
     pub step: Step,
-    /// 1 to 6, the position of that step in the row; 0 for a ruling with the first mark.
+    /// The step's place in its row, counted from 1; 0 for a ruling with the first mark.
     pub place: u8,
 }

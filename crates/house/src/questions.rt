@@ -1,5 +1,5 @@
 // The question for a price.
-ghost use Rattle.std.specs.Prelude.{◌≡◌};
+ghost use Rattle.std.specs.Prelude.{◌≡◌, unsigned_abs};
 ghost use Rattle.house.specs.Answers.{answer_at};
 ghost use Rattle.house.specs.ByPath.{ByPath};
 ghost use Rattle.house.specs.Houses.{set_of, state};
@@ -49,16 +49,17 @@ impl<L: LadderSet> House<L> {
         question.answer()
     }
 
-    // The answer to the question, or the refusal that comes before it. Apart from `settle`, whose clauses `path` and `meaning`
-    // rest on this one, so that a fault in the answer is told here. Series and edition stay two parameters, as they are two
-    // words of a line.
+    // The answer to the question, or the refusal that comes before it. Apart from `settle`, whose clauses `path`, `meaning` and
+    // `reach` rest on this one, so that a fault in the answer is told here. Series and edition stay two parameters, as they are
+    // two words of a line.
     fn answer_to<B: Book>(
         &self,
         book: &B,
         series: i64,
         edition: Edition,
     ) -> Result<Settlement, HouseFault>
-        ensures { result ≡ settle_answer (L.lawful (set_of self.now)) edition series (state self.now) (B.meaning book.now) }
+        ensures value { result ≡ settle_answer (L.lawful (set_of self.now)) edition series (state self.now) (B.meaning book.now) }
+        ensures reach { AnswerInReach (unsigned_abs series) result }
     {
         if !is_open(self.phase, edition) {
             return Err(HouseFault::WrongPhase);
@@ -80,6 +81,7 @@ impl<L: LadderSet> House<L> {
         ensures path { ByPath (L.lawful (set_of self.now)) edition (state self.now) (B.meaning book.now) series result }
         ensures meaning { Explained (L.lawful (set_of self.now)) edition (state self.now) (B.meaning book.now) series result }
         ensures one { OneAnswer }
+        ensures reach { AnswerInReach (unsigned_abs series) result }
     {
         self.answer_to(book, series, edition)
     }

@@ -1,5 +1,5 @@
 // The worked prices, as one list: each is proved of what rounding, the steps and the answers mean. The tests of `trials` run the code on
-// the roundings, and the program `house_trials` on the rest.
+// the roundings; `house_trials` has cases of its own, and does not read the list.
 ghost use Rattle.std.specs.Prelude.{◌≡◌};
 ghost use Rattle.std.specs.List.{AllByRecursion};
 ghost use Rattle.house.specs.Worked.{Holds, worked_prices};
@@ -64,7 +64,7 @@ pub enum WorkedPrice {
         /// What the step finds.
         price: i64,
     },
-    /// The answer to a question, where nothing is entered or supplied.
+    /// The answer of a closed house to a question, where nothing is entered or supplied.
     Answer {
         /// Of every ladder.
         tick: u32,

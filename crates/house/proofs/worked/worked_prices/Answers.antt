@@ -24,7 +24,7 @@ all_hold =
     & above_step 10 (negsuc 100) (negsuc 99) (omega arith) (omega arith) refl
     & nearest_on 10 (pos 230) 2 (pos 120) (omega arith) (omega arith) refl refl
     & refl
-    & (refl, refl, refl)
+    & (λ d capacity. (refl, refl))
     & tt
 
 pub returns-clause-hold : goal.returns-clause-hold

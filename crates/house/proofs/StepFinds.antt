@@ -1,0 +1,151 @@
+-- A step finds no two prices, and finds what is computed.
+use Rattle.std.proofs.Common.{◌≡◌, ℕ, ◌<◌, Bool, true, cond, ℤ, ◌+ℤ◌, ◌-ℤ◌, nat_abs, Some, None, Option, refl, sym, ap, ◌∙◌, subst}
+use Rattle.std.proofs.lemmas.Bool.{cond_both, cond-true}
+use Rattle.std.proofs.lemmas.Option.{none-some, same_Some}
+use Rattle.book.specs.declared.figures.Sides.{Sides}
+use Rattle.book.specs.declared.figures.Values.{Values}
+use Rattle.ladders.specs.Fractions.{ceiling, floor, inside}
+use Rattle.ladders.specs.Orders.{above_once}
+use Rattle.ladders.specs.Prices.{within}
+use Rattle.ladders.specs.Rounding.{Above, Near, Nearest}
+use Rattle.ladders.specs.Values.{above_of, below_of, nearest_of, nearest_price}
+use Rattle.ladders.proofs.Nearest.{above_of_is, above_value, below_of_is, closer_is_nearest, inside_range, nearest_once, nearest_value}
+use Rattle.rows.specs.Codes.{window_number}
+use Rattle.rows.specs.declared.places.Place.{Place}
+use Rattle.rows.specs.declared.steps.Step.{Step}
+use Rattle.rows.specs.declared.steps.Step.TheVariants.{Auction, Trade, Quote, Average, Theory, TheoryUp, Spread, PreviousSpread, Copy, Previous, Ruling}
+use Rattle.house.specs.FindsPrice.{FindsPrice, IsLess, IsNearest, IsNearestMiddle, PlaceFinds}
+use Rattle.house.specs.Found.{Station, above_theory, finds, found, less, middle, nearest_theory, quoted, ruled}
+use Rattle.house.specs.declared.series.Ruling as rulings
+use Rattle.house.specs.declared.series.Series.{Series}
+
+-- ---- no two prices are found
+
+-- no two values stand in one option
+same_value : {A : Type 0} (o : Option A) (x y : A) → o ≡ Some x → o ≡ Some y → x ≡ y
+same_value o x y h k = same_Some x y (sym h ∙ k)
+
+module _ (P : ℤ → Bool) where
+  nearest_middle_once : (quote : Option Sides) (p r : ℤ) → IsNearestMiddle P quote p → IsNearestMiddle P quote r → p ≡ r
+  nearest_middle_once quote p r (b, a, h, m) (c, d, k, n) =
+      let same = same_value quote (record { bid = Some b; ask = Some a }) (record { bid = Some c; ask = Some d }) h k in
+      let bids = same_Some b c (ap (λ (q : Sides). q.bid) same) in
+      let asks = same_Some a d (ap (λ (q : Sides). q.ask) same) in
+      nearest_once P (c +ℤ d) 2 p r (subst (λ (z : ℤ). Nearest P z 2 p) (λ i. bids i +ℤ asks i) m.1) n.1
+
+  less_once : (reference spread : Option ℤ) (p r : ℤ) → IsLess reference spread p → IsLess reference spread r → p ≡ r
+  less_once reference spread p r (a, b, h, k, e) (c, d, l, m, f) =
+      let references = same_value reference a c h l in
+      let spreads = same_value spread b d k m in
+      e ∙ (λ i. references i -ℤ spreads i) ∙ sym f
+
+  finds_once : (u : Option ℤ) (s : Series) (v : Values) (t : Step) (p r : ℤ) → FindsPrice P u s v t p → FindsPrice P u s v t r → p ≡ r
+  finds_once u s v Auction p r h k = same_value v.auction p r h k
+  finds_once u s v Trade p r h k = same_value v.trade p r h k
+  finds_once u s v Quote p r h k = nearest_middle_once v.quote p r h k
+  finds_once u s v Average p r h k = nearest_once P v.money (nat_abs v.lots) p r h.1 k.1
+  finds_once u s v Theory p r (a, h, m) (b, k, n) =
+      nearest_once P b 1 p r (subst (λ (z : ℤ). Nearest P z 1 p) (same_value s.theory a b h k) m.1) n.1
+  finds_once u s v TheoryUp p r (a, h, l, m) (b, k, g, n) =
+      above_once P b p r (subst (λ (z : ℤ). Above P z p) (same_value s.theory a b h k) m) n
+  finds_once u s v Spread p r h k = less_once u v.spread p r h k
+  finds_once u s v PreviousSpread p r h k = less_once u s.terms.previous_spread p r h k
+  finds_once u s v Copy p r h k = same_value u p r h k
+  finds_once u s v Previous p r h k = same_value s.terms.previous_settlement p r h k
+  finds_once u s v Ruling p r (a, h, e) (b, k, f) = e ∙ ap (λ (x : rulings.Ruling). x.value) (same_value s.ruling a b h k) ∙ sym f
+
+pub place_finds_once : (P : ℕ → ℤ → Bool) (u : Option ℤ) (x : Station) (q : Place) (p r : ℤ) → PlaceFinds P u x q p → PlaceFinds P u x q r → p ≡ r
+place_finds_once P u x q p r h k = finds_once (P x.series.terms.ladder) u x.series (x.figures (window_number q.window)) q.step p r h k
+
+-- ---- where lawful prices are near everywhere, what is found is what is computed
+
+-- for each kind of step: what is computed is found (`_is`), and what is found is computed (`_value`)
+less_is : (reference spread : Option ℤ) (p : ℤ) → less reference spread ≡ Some p → IsLess reference spread p
+less_is None spread p h = absurd (none-some p h)
+less_is (Some r) None p h = absurd (none-some p h)
+less_is (Some r) (Some d) p h = (r, d, refl, refl, sym (same_Some (r -ℤ d) p h))
+
+less_value : (reference spread : Option ℤ) (p : ℤ) → IsLess reference spread p → less reference spread ≡ Some p
+less_value reference spread p (r, d, h, k, e) = (λ i. less (h i) (k i)) ∙ ap Some (sym e)
+
+module _ (P : ℤ → Bool) (near : (z : ℤ) → Near P z) where
+  nearest_of_is : (n : ℤ) (d : ℕ) → 0 < d → Nearest P n d (nearest_of P n d)
+  unfolding nearest_of
+  nearest_of_is n d h =
+      closer_is_nearest P n d (below_of P (floor n d)) (above_of P (ceiling n d)) h (below_of_is P near (floor n d)) (above_of_is P near (ceiling n d))
+
+  nearest_price_is : (n : ℤ) (d : ℕ) (p : ℤ) → nearest_price P n d ≡ Some p → IsNearest P n d p
+  nearest_price_is n d p = cond_both (inside n d) (Some (nearest_of P n d)) None (λ (o : Option ℤ). o ≡ Some p → IsNearest P n d p)
+      (λ e h. (e, subst (Nearest P n d) (same_Some (nearest_of P n d) p h) (nearest_of_is n d (inside_range n d e).0)))
+      (λ e h. absurd (none-some p h))
+
+  nearest_price_value : (n : ℤ) (d : ℕ) (p : ℤ) → IsNearest P n d p → nearest_price P n d ≡ Some p
+  nearest_price_value n d p h =
+      cond-true (inside n d) (Some (nearest_of P n d)) None h.0 ∙ ap Some (sym (nearest_value P near n d p (inside_range n d h.0).0 h.1))
+
+  quoted_is : (quote : Option Sides) (p : ℤ) → quoted P quote ≡ Some p → IsNearestMiddle P quote p
+  quoted_is None p h = absurd (none-some p h)
+  quoted_is (Some q) p h = by q.bid q.ask refl refl h
+    where
+      by : (b a : Option ℤ) → q.bid ≡ b → q.ask ≡ a → middle P b a ≡ Some p → IsNearestMiddle P (Some q) p
+      by None a e f k = absurd (none-some p k)
+      by (Some b) None e f k = absurd (none-some p k)
+      by (Some b) (Some a) e f k = (b, a, (λ i. Some (record { bid = e i; ask = f i })), nearest_price_is (b +ℤ a) 2 p k)
+
+  quoted_value : (quote : Option Sides) (p : ℤ) → IsNearestMiddle P quote p → quoted P quote ≡ Some p
+  quoted_value quote p (b, a, h, m) = ap (quoted P) h ∙ nearest_price_value (b +ℤ a) 2 p m
+
+  above_theory_is : (v p : ℤ) → cond (within v) (Some (above_of P v)) None ≡ Some p → (within v ≡ true) × Above P v p
+  above_theory_is v p = cond_both (within v) (Some (above_of P v)) None (λ (o : Option ℤ). o ≡ Some p → (within v ≡ true) × Above P v p)
+      (λ e h. (e, subst (Above P v) (same_Some (above_of P v) p h) (above_of_is P near v)))
+      (λ e h. absurd (none-some p h))
+
+  above_theory_value : (v p : ℤ) → within v ≡ true → Above P v p → cond (within v) (Some (above_of P v)) None ≡ Some p
+  above_theory_value v p e h = cond-true (within v) (Some (above_of P v)) None e ∙ ap Some (sym (above_value P near v p h))
+
+  -- so for every step
+  finds_value : (u : Option ℤ) (s : Series) (v : Values) (t : Step) (p : ℤ) → FindsPrice P u s v t p → finds P u s v t ≡ Some p
+  finds_value u s v Auction p h = h
+  finds_value u s v Trade p h = h
+  finds_value u s v Quote p h = quoted_value v.quote p h
+  finds_value u s v Average p h = nearest_price_value v.money (nat_abs v.lots) p h
+  finds_value u s v Theory p (a, h, m) = ap (nearest_theory P) h ∙ nearest_price_value a 1 p m
+  finds_value u s v TheoryUp p (a, h, e, m) = ap (above_theory P) h ∙ above_theory_value a p e m
+  finds_value u s v Spread p h = less_value u v.spread p h
+  finds_value u s v PreviousSpread p h = less_value u s.terms.previous_spread p h
+  finds_value u s v Copy p h = h
+  finds_value u s v Previous p h = h
+  finds_value u s v Ruling p (a, h, e) = ap ruled h ∙ ap Some (sym e)
+
+  finds_is : (u : Option ℤ) (s : Series) (v : Values) (t : Step) (p : ℤ) → finds P u s v t ≡ Some p → FindsPrice P u s v t p
+  finds_is u s v Auction p h = h
+  finds_is u s v Trade p h = h
+  finds_is u s v Quote p h = quoted_is v.quote p h
+  finds_is u s v Average p h = nearest_price_is v.money (nat_abs v.lots) p h
+  finds_is u s v Theory p h = by s.theory refl h
+    where
+      by : (o : Option ℤ) → s.theory ≡ o → nearest_theory P o ≡ Some p → FindsPrice P u s v Theory p
+      by None e k = absurd (none-some p k)
+      by (Some a) e k = (a, e, nearest_price_is a 1 p k)
+  finds_is u s v TheoryUp p h = by s.theory refl h
+    where
+      by : (o : Option ℤ) → s.theory ≡ o → above_theory P o ≡ Some p → FindsPrice P u s v TheoryUp p
+      by None e k = absurd (none-some p k)
+      by (Some a) e k = let above = above_theory_is a p k in (a, e, above.0, above.1)
+  finds_is u s v Spread p h = less_is u v.spread p h
+  finds_is u s v PreviousSpread p h = less_is u s.terms.previous_spread p h
+  finds_is u s v Copy p h = h
+  finds_is u s v Previous p h = h
+  finds_is u s v Ruling p h = by s.ruling refl h
+    where
+      by : (o : Option rulings.Ruling) → s.ruling ≡ o → ruled o ≡ Some p → FindsPrice P u s v Ruling p
+      by None e k = absurd (none-some p k)
+      by (Some a) e k = (a, e, sym (same_Some a.value p k))
+
+module _ (P : ℕ → ℤ → Bool) (near : (n : ℕ) (z : ℤ) → Near (P n) z) (u : Option ℤ) (x : Station) (q : Place) (p : ℤ) where
+  pub found_is : found P u x q ≡ Some p → PlaceFinds P u x q p
+  found_is h = finds_is (P x.series.terms.ladder) (near x.series.terms.ladder) u x.series (x.figures (window_number q.window)) q.step p h
+
+  pub none_found : found P u x q ≡ None → PlaceFinds P u x q p → ⊥
+  none_found none h =
+      none-some p (sym none ∙ finds_value (P x.series.terms.ladder) (near x.series.terms.ladder) u x.series (x.figures (window_number q.window)) q.step p h)

@@ -1,0 +1,47 @@
+-- That a step finds a price, as a relation in the words of the rules.
+use Rattle.std.specs.Prelude.{◌≡◌, ℕ, Bool, true, ℤ, ◌+ℤ◌, ◌-ℤ◌, Some, Option, unsigned_abs}
+use Rattle.book.specs.declared.figures.Sides.{Sides}
+use Rattle.book.specs.declared.figures.Values.{Values}
+use Rattle.ladders.specs.Fractions.{inside}
+use Rattle.ladders.specs.Prices.{within}
+use Rattle.ladders.specs.Rounding.{Above, Nearest}
+use Rattle.rows.specs.Codes.{window_number}
+use Rattle.rows.specs.declared.places.Place.{Place}
+use Rattle.rows.specs.declared.steps.Step.{Step}
+use Rattle.rows.specs.declared.steps.Step.TheVariants.{Auction, Trade, Quote, Average, Theory, TheoryUp, Spread, PreviousSpread, Copy, Previous, Ruling}
+use Rattle.house.specs.Found.{Station}
+use Rattle.house.specs.declared.series.Ruling as rulings
+use Rattle.house.specs.declared.series.Series.{Series}
+
+-- p is nearest of n / d; d is not 0, and the fraction lies within the price limit
+abbrev pub IsNearest : (ℤ → Bool) → ℤ → ℕ → ℤ → Type 0
+IsNearest lawful n d p = (inside n d ≡ true) × Nearest lawful n d p
+
+-- the quote has both sides, and p is nearest of their middle
+abbrev pub IsNearestMiddle : (ℤ → Bool) → Option Sides → ℤ → Type 0
+IsNearestMiddle lawful quote p =
+    (bid : ℤ) × (ask : ℤ) × (quote ≡ Some (record { bid = Some bid; ask = Some ask })) × IsNearest lawful (bid +ℤ ask) 2 p
+
+-- the reference has a price, there is a spread, and p is the one less the other
+abbrev pub IsLess : Option ℤ → Option ℤ → ℤ → Type 0
+IsLess reference spread p = (r : ℤ) × (d : ℤ) × (reference ≡ Some r) × (spread ≡ Some d) × (p ≡ r -ℤ d)
+
+-- the step finds p on the lawful prices of the series' ladder, with the reference's price, where there is one, and the figures of the
+-- step's window
+abbrev pub FindsPrice : (ℤ → Bool) → Option ℤ → Series → Values → Step → ℤ → Type 0
+FindsPrice lawful reference s v Auction p = v.auction ≡ Some p
+FindsPrice lawful reference s v Trade p = v.trade ≡ Some p
+FindsPrice lawful reference s v Quote p = IsNearestMiddle lawful v.quote p
+FindsPrice lawful reference s v Average p = IsNearest lawful v.money (unsigned_abs v.lots) p
+FindsPrice lawful reference s v Theory p = (t : ℤ) × (s.theory ≡ Some t) × IsNearest lawful t 1 p
+FindsPrice lawful reference s v TheoryUp p = (t : ℤ) × (s.theory ≡ Some t) × (within t ≡ true) × Above lawful t p
+FindsPrice lawful reference s v Spread p = IsLess reference v.spread p
+FindsPrice lawful reference s v PreviousSpread p = IsLess reference s.terms.previous_spread p
+FindsPrice lawful reference s v Copy p = reference ≡ Some p
+FindsPrice lawful reference s v Previous p = s.terms.previous_settlement ≡ Some p
+FindsPrice lawful reference s v Ruling p = (r : rulings.Ruling) × (s.ruling ≡ Some r) × (p ≡ r.value)
+
+-- the place of a row finds p for a series: its step does, with the figures of its window
+abbrev pub PlaceFinds : (ℕ → ℤ → Bool) → Option ℤ → Station → Place → ℤ → Type 0
+PlaceFinds lawful reference x q p =
+    FindsPrice (lawful x.series.terms.ladder) reference x.series (x.figures (window_number q.window)) q.step p
