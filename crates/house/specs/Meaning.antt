@@ -25,7 +25,7 @@ abbrev pub is_first : Option Ruling → Bool
 is_first None = false
 is_first (Some r) = r.first
 
--- a settlement is read off a ruling with the first mark, which has place 0
+-- a settlement by a ruling with the first mark, which has place 0
 pub record RuledFirst (o : Option Ruling) (s : Settlement) : Type 0 where
   pub ruling : Ruling
   pub stands : o ≡ Some ruling
@@ -34,7 +34,7 @@ pub record RuledFirst (o : Option Ruling) (s : Settlement) : Type 0 where
   pub step : s.step ≡ steps.TheVariants.Ruling
   pub place : s.place ≡ 0
 
--- a settlement is read off a position of the row: that place has the step and finds the price, and no earlier place finds one
+-- a settlement at a position of the row: the place there has the step and finds the price, and no earlier place finds one
 pub record StandsAt (Finds : Place → ℤ → Type 0) (ps : List Place) (s : Settlement) : Type 0 where
   pub position : ℕ
   pub place : Place
