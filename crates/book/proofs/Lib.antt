@@ -1,4 +1,5 @@
 pub mod Folds
+pub mod StoredTakings
 pub mod Taking
 pub mod RecordedEvidence
 mod TakenEvidence

@@ -27,13 +27,13 @@ pub fn admit(day: &Day, count: usize, capacity: usize, entry: &Entry) -> Result<
     }
 }
 
-/// A book of one trading day: it takes entries, and tells the figures of each series and window. Both makes have this meaning.
+/// A book of one trading day: it takes entries, and tells the figures of each series and window. Every make has this meaning.
 pub trait Book {
     // The day record, the capacity, how many entries were taken, and the figures of every series and window.
     ghost meaning: { Self → Ledger };
 
     // The memory that was lent to the book, and the same with an entry stored as the one after so many. It is `Unit` for a make
-    // that is lent none.
+    // that is lent none, or that tells nothing of it.
     ghost Memory: { Type 0 };
 
     ghost memory: { Self → Memory };

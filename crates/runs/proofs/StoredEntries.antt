@@ -5,6 +5,7 @@ use Rattle.std.proofs.Math.Numerals.{add-one}
 use Rattle.std.proofs.lemmas.List.{at_drop_more}
 use Rattle.std.proofs.lemmas.List.Edits.{sets, sets-eq}
 use Rattle.book.specs.Ledgers.{Ledger, with_taken}
+use Rattle.book.specs.Takings.{with_all_stored}
 use Rattle.book.specs.declared.entries.Entry.{Entry}
 use Rattle.house.specs.Calls.{State, entry_answer, moved, ok_with}
 use Rattle.house.specs.declared.faults.HouseFault.{HouseFault}
@@ -14,7 +15,7 @@ use Rattle.calls.specs.declared.call.Call.TheVariants.{List as ListCall, Ring, E
 use Rattle.calls.specs.declared.call.Reply.TheVariants.{Done}
 use Rattle.runs.specs.ByCalls.{entries, entries_in}
 use Rattle.runs.specs.Runs.{after_run, calls_taken}
-use Rattle.runs.specs.Stored.{filled, with_all_stored}
+use Rattle.runs.specs.Stored.{filled}
 
 -- ---- a call and those that follow it
 

@@ -17,7 +17,7 @@ use Rattle.runs.specs.Added.{Among}
 use Rattle.runs.specs.PathEntries.{entries_on}
 use Rattle.runs.specs.Raised.{EntryRaised, SeriesRaised}
 use Rattle.runs.specs.Relations.{Relation}
-use Rattle.runs.specs.Stored.{with_all_stored}
+use Rattle.book.specs.Takings.{with_all_stored}
 use Rattle.runs.specs.Told.{Told}
 use Rattle.runs.specs.ByCalls.{entries, terms_listed, phase_after, series_after}
 use Rattle.calls.specs.Worlds.{World, new_world, world}

@@ -5,7 +5,7 @@ ghost use Rattle.house.specs.Houses.{set_of};
 ghost use Rattle.calls.specs.Worlds.{new_world, world};
 ghost use Rattle.runs.specs.ByCalls.{entries};
 ghost use Rattle.runs.specs.Runs.{after_run, calls_taken};
-ghost use Rattle.runs.specs.Stored.{with_all_stored};
+ghost use Rattle.book.specs.Takings.{with_all_stored};
 ghost use Rattle.runs.specs.Told.{Told};
 
 use book::books::Book;

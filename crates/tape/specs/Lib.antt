@@ -1,1 +1,1 @@
-pub mod Stored
+pub mod LawfulTape

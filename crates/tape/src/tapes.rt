@@ -6,7 +6,7 @@ ghost use Rattle.book.specs.Entries.{allowed};
 ghost use Rattle.book.specs.Ledgers.{fresh};
 ghost use Rattle.book.specs.Records.{every, recorded};
 ghost use Rattle.book.specs.declared.entries.Entry.{Entry};
-ghost use Rattle.tape.specs.Stored.{stored_is_lawful};
+ghost use Rattle.tape.specs.LawfulTape.{stored_is_lawful};
 
 use crate::scans::scan;
 use book::books::{Book, MOST, Reusable, admit};

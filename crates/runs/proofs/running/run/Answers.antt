@@ -4,7 +4,7 @@ use Rattle.house.specs.Houses.{set_of}
 use Rattle.calls.specs.Worlds.{world}
 use Rattle.runs.specs.ByCalls.{entries}
 use Rattle.runs.specs.Runs.{after_run, calls_taken}
-use Rattle.runs.specs.Stored.{with_all_stored}
+use Rattle.book.specs.Takings.{with_all_stored}
 use Rattle.runs.proofs.StoredEntries.{made_next, stored_next}
 use Rattle.runs.proofs.ToldRuns.{told_from_new}
 use Rattle.runs.proofs.running.run.Goals as goal

@@ -3,7 +3,7 @@ use Rattle.house.specs.Houses.{set_of}
 use Rattle.calls.specs.Worlds.{world}
 use Rattle.runs.specs.ByCalls.{entries}
 use Rattle.runs.specs.Runs.{after_run, calls_taken}
-use Rattle.runs.specs.Stored.{with_all_stored}
+use Rattle.book.specs.Takings.{with_all_stored}
 use Rattle.runs.proofs.running.run.Given as goal
 
 -- the calls so far were made, over the same set, so that the rest end where all of them do, and store what is left to store
