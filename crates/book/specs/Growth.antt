@@ -5,7 +5,7 @@ use Rattle.std.proofs.Math.Bool.{and-true}
 use Rattle.std.proofs.lemmas.Int.{ints}
 use Rattle.std.proofs.lemmas.Bool.{and_parts, and_from, cond_both, leb-true, le-leb}
 use Rattle.book.specs.Bounds.{bounded, sums_within, spread_if, sides_if}
-use Rattle.book.specs.Entries.{kind_lawful, lots_lawful, price_lawful, side_lawful, uncrossed}
+use Rattle.book.specs.Entries.{kind_lawful, lots_lawful, price_lawful, side_lawful}
 use Rattle.book.specs.Figures.{concerns, empty, entered_if, entered_in, latest, with_entry, roomy, unstamped, sound, traded, values, with_auction}
 use Rattle.book.specs.declared.entries.Entry.{Entry}
 use Rattle.book.specs.declared.entries.Kind.{Kind}
@@ -128,7 +128,6 @@ parts_of_entry n f (Spread d) t h v =
     }
 parts_of_entry n f (Quote b a) t h v =
     let w = later n (values f) v in
-    let sides = (and_parts (side_lawful b && side_lawful a) (uncrossed b a) h).0 in
     record {
       lots_from = w.lots_from;
       lots_to = w.lots_to;
@@ -136,7 +135,7 @@ parts_of_entry n f (Quote b a) t h v =
       trade = w.trade;
       auction = w.auction;
       spread = w.spread;
-      quote = later_of_both sides_if f.quote t (record { bid = b; ask = a }) w.quote sides;
+      quote = later_of_both sides_if f.quote t (record { bid = b; ask = a }) w.quote h;
     }
 
 pub bounded_entered : (n s : ℕ) (x : ℤ × ℤ) (f : Figures) (e : Entry) → kind_lawful e.kind ≡ true → bounded n (values f) ≡ true → bounded (n + 1) (values (entered_in s x f e)) ≡ true

@@ -5,7 +5,7 @@ use Rattle.std.specs.List.{AllZip, AllByRecursion}
 use Rattle.std.proofs.lemmas.Int.{ints}
 use Rattle.std.proofs.lemmas.Bool.{and_parts}
 use Rattle.book.specs.Bounds.{bounded, sides_if}
-use Rattle.book.specs.Entries.{side_lawful}
+use Rattle.book.specs.Entries.{side_lawful, uncrossed}
 use Rattle.book.specs.declared.figures.Sides.{Sides}
 use Rattle.book.specs.declared.figures.Values.{Values}
 use Rattle.book.specs.Growth.{parts}
@@ -99,8 +99,8 @@ module _ (P : ℤ → Bool) (near : (z : ℤ) → Near P z) where
   quoted_raised None (Some r) l m rise = absurd rise
   quoted_raised (Some q) None l m rise = absurd rise
   quoted_raised (Some q) (Some r) l m rise =
-      let left = and_parts (side_lawful q.bid) (side_lawful q.ask) l in
-      let right = and_parts (side_lawful r.bid) (side_lawful r.ask) m in
+      let left = and_parts (side_lawful q.bid) (side_lawful q.ask) (and_parts (side_lawful q.bid && side_lawful q.ask) (uncrossed q.bid q.ask) l).0 in
+      let right = and_parts (side_lawful r.bid) (side_lawful r.ask) (and_parts (side_lawful r.bid && side_lawful r.ask) (uncrossed r.bid r.ask) m).0 in
       middle_raised q.bid q.ask r.bid r.ask left.0 left.1 right.0 right.1 rise.bid rise.ask
 
   average_raised : (k l : ℕ) (v w : Values) → bounded k v ≡ true → bounded l w ≡ true → ValuesRaised v w
