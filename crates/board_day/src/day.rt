@@ -19,7 +19,7 @@ use stream::serving::serve;
 /// reader's or the writer's: a front of the answers to what was read has then been written. The laws beside it are of the words that it is told in: no lines have two transcripts, every input falls
 /// into lines in one way, and lines are answered one by one, where a refused one leaves house and book as they were.
 pub fn serve_day<R: Read, W: Write>(input: &mut R, output: &mut W) -> io::Result<()>
-    ensures served { OnOk result (DayServed (R.remaining input.old) (W.contents output.old) (W.contents output.new)) }
+    ensures served { OnOk result (DayServed (R.remaining input.old) (R.remaining input.new) (W.contents output.old) (W.contents output.new)) }
     ensures failed { OnErr result (DayServedInPart (R.remaining input.old) (R.remaining input.new) (W.contents output.old) (W.contents output.new)) }
     ensures line_by_line { LineByLine }
     ensures once { OneTranscript }

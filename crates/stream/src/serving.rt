@@ -46,7 +46,7 @@ pub fn serve<B: Reusable, R: Read, W: Write>(
     input: &mut R,
     output: &mut W,
 ) -> io::Result<()>
-    ensures served { OnOk result (Served (R.remaining input.old) (W.contents output.old) (W.contents output.new) (B.meaning book.old) (B.meaning book.new)) }
+    ensures served { OnOk result (Served (R.remaining input.old) (R.remaining input.new) (W.contents output.old) (W.contents output.new) (B.meaning book.old) (B.meaning book.new)) }
     ensures failed { OnErr result (ServedInPart (R.remaining input.old) (R.remaining input.new) (W.contents output.old) (W.contents output.new) (B.meaning book.old) (B.meaning book.new)) }
     ensures once { OneTranscript }
     ensures lines { SplitLines }

@@ -1,9 +1,9 @@
 // A session: the desk, with what it holds of its input and of its output.
-ghost use Rattle.std.specs.Prelude.{◌≡◌, ℕ, List, Option, false, true, is_err, IfErr, IsErr, IsErrAnd, OnErr, OnOk};
+ghost use Rattle.std.specs.Prelude.{◌≡◌, ℕ, ◌≤◌, List, length, Option, false, true, is_err, IfErr, IsErr, IsErrAnd, OnErr, OnOk};
 ghost use Rattle.std.specs.IoError.{error_kind};
 ghost use Rattle.book.specs.Ledgers.{Ledger};
 ghost use Rattle.desk.specs.Desks.{desk_state};
-ghost use Rattle.stream.specs.Held.{AnsweredUpTo, AnswerPrinted, AnswersSent, Finished, Flushed, InputClosed, LineEnded, PieceAnswered, PieceTaken, WriteFailed, at_first};
+ghost use Rattle.stream.specs.Held.{AfterError, AnsweredUpTo, AnswerPrinted, AnswersSent, Finished, Flushed, InputClosed, LineEnded, PieceAnswered, PieceTaken, at_first};
 ghost use Rattle.stream.specs.Sessions.{has_failed, unsent_bytes, view_of};
 
 use crate::pending::Pending;
@@ -31,7 +31,7 @@ fn print_answer<B: Reusable, W: Write>(
         OnOk result (AnswerPrinted line.now before (W.contents writer.old) (W.contents writer.new) (unsent_bytes unsent.old) (unsent_bytes unsent.new) after) }
     ensures failed { let before = desk_state desk.old (B.meaning book.old) in
         let after = desk_state desk.new (B.meaning book.new) in
-        OnErr result ((rest : List ℕ) × AnswerPrinted line.now before (W.contents writer.old) (W.contents writer.new) (unsent_bytes unsent.old) rest after) }
+        OnErr result ((rest : List ℕ) × (length rest ≤ 8289) × AnswerPrinted line.now before (W.contents writer.old) (W.contents writer.new) (unsent_bytes unsent.old) rest after) }
 {
     let mut answer = [NEWLINE; ROOM + 1];
     let n = desk.respond(book, line, &mut answer).unwrap();
@@ -81,7 +81,7 @@ impl Session {
             OnOk result (LineEnded before bytes.now after) }
         ensures failed { let before = view_of self.old (W.contents writer.old) (B.meaning book.old) in
             let after = view_of self.new (W.contents writer.new) (B.meaning book.new) in
-            OnErr result (WriteFailed after (LineEnded before bytes.now)) }
+            OnErr result (AfterError after (LineEnded before bytes.now)) }
     {
         if self.pending.line().is_empty() {
             return print_answer(&mut self.desk, &mut self.unsent, book, writer, bytes);
@@ -105,7 +105,7 @@ impl Session {
             OnOk result (PieceAnswered before piece.now after) }
         ensures failed { let before = view_of self.old (W.contents writer.old) (B.meaning book.old) in
             let after = view_of self.new (W.contents writer.new) (B.meaning book.new) in
-            OnErr result ((rest : List ℕ) × WriteFailed after (AnsweredUpTo before piece.now rest)) }
+            OnErr result ((rest : List ℕ) × AfterError after (AnsweredUpTo before piece.now rest)) }
     {
         let mut rest = piece;
         while let Some(end) = memchr(NEWLINE, rest) {
@@ -123,7 +123,7 @@ impl Session {
             OnOk result (InputClosed before after) }
         ensures failed { let before = view_of self.old (W.contents writer.old) (B.meaning book.old) in
             let after = view_of self.new (W.contents writer.new) (B.meaning book.new) in
-            OnErr result (WriteFailed after (InputClosed before)) }
+            OnErr result (AfterError after (InputClosed before)) }
     {
         if self.pending.line().is_empty() {
             return Ok(());
@@ -136,7 +136,7 @@ impl Session {
         ensures flushed { OnOk result ((m : Ledger) →
             Flushed (view_of self.old (W.contents writer.old) m) (view_of self.new (W.contents writer.new) m)) }
         ensures failed { OnErr result ((m : Ledger) →
-            WriteFailed (view_of self.new (W.contents writer.new) m) (AnswersSent (view_of self.old (W.contents writer.old) m))) }
+            AfterError (view_of self.new (W.contents writer.new) m) (AnswersSent (view_of self.old (W.contents writer.old) m))) }
     {
         self.unsent.send(writer)?;
         writer.flush()
@@ -154,7 +154,7 @@ impl Session {
             OnOk result (PieceTaken before piece.now after) }
         ensures failed { let before = view_of self.old (W.contents writer.old) (B.meaning book.old) in
             let after = view_of self.new (W.contents writer.new) (B.meaning book.new) in
-            OnErr result ((rest : List ℕ) × WriteFailed after (AnsweredUpTo before piece.now rest)) }
+            OnErr result ((rest : List ℕ) × AfterError after (AnsweredUpTo before piece.now rest)) }
     {
         self.answer_piece(book, writer, piece)?;
         self.send(writer)
@@ -171,7 +171,7 @@ impl Session {
             OnOk result (Finished before after) }
         ensures failed { let before = view_of self.old (W.contents writer.old) (B.meaning book.old) in
             let after = view_of self.new (W.contents writer.new) (B.meaning book.new) in
-            OnErr result (WriteFailed after (InputClosed before)) }
+            OnErr result (AfterError after (InputClosed before)) }
     {
         self.close(book, writer)?;
         self.send(writer)
@@ -194,7 +194,7 @@ impl Session {
         ensures flushed { OnOk result ((m : Ledger) →
             Flushed (view_of self.old (W.contents writer.old) m) (view_of self.new (W.contents writer.new) m)) }
         ensures failed { has_failed self.old ≡ false → OnErr result ((m : Ledger) →
-            WriteFailed (view_of self.new (W.contents writer.new) m) (AnswersSent (view_of self.old (W.contents writer.old) m))) }
+            AfterError (view_of self.new (W.contents writer.new) m) (AnswersSent (view_of self.old (W.contents writer.old) m))) }
         ensures ends { has_failed self.new ≡ is_err result }
         ensures refused { has_failed self.old ≡ true → IsErrAnd result (λ e. error_kind e ≡ ErrorKind.Other) }
         ensures unchanged { has_failed self.old ≡ true → (m : Ledger) →
@@ -220,7 +220,7 @@ impl Session {
             OnOk result (PieceTaken before piece.now after) }
         ensures failed { let before = view_of self.old (W.contents writer.old) (B.meaning book.old) in
             let after = view_of self.new (W.contents writer.new) (B.meaning book.new) in
-            has_failed self.old ≡ false → OnErr result ((rest : List ℕ) × WriteFailed after (AnsweredUpTo before piece.now rest)) }
+            has_failed self.old ≡ false → OnErr result ((rest : List ℕ) × AfterError after (AnsweredUpTo before piece.now rest)) }
         ensures ends { has_failed self.new ≡ is_err result }
         ensures refused { has_failed self.old ≡ true → IsErrAnd result (λ e. error_kind e ≡ ErrorKind.Other) }
         ensures unchanged { let before = view_of self.old (W.contents writer.old) (B.meaning book.old) in
@@ -241,7 +241,7 @@ impl Session {
             OnOk result (Finished before after) }
         ensures failed { let before = view_of self.old (W.contents writer.old) (B.meaning book.old) in
             let after = view_of self.new (W.contents writer.new) (B.meaning book.new) in
-            has_failed self.old ≡ false → OnErr result (WriteFailed after (InputClosed before)) }
+            has_failed self.old ≡ false → OnErr result (AfterError after (InputClosed before)) }
         ensures ends { has_failed self.new ≡ is_err result }
         ensures refused { has_failed self.old ≡ true → IsErrAnd result (λ e. error_kind e ≡ ErrorKind.Other) }
         ensures unchanged { let before = view_of self.old (W.contents writer.old) (B.meaning book.old) in
