@@ -19,9 +19,9 @@ pub record Served (remaining left before after : Option (List ℕ)) (old new : L
   pub book : new ≡ desk_state.book
 
 -- what was read is an earlier part and a last piece of at most 8,192 bytes. All lines that ended in the earlier part are answered, and
--- their whole transcript was written. Of what followed them, the line begun there and the piece, the first lines are answered, or all
--- where the input has ended; of their transcript a front was written, and at most 8,289 bytes are lost. The book has what the calls of
--- all these lines left
+-- their whole transcript was written. Of the lines that ended in what follows them, the line begun there and the piece, the first are
+-- answered, or all lines where the input has ended; of their transcript a front was written, and at most 8,289 bytes are lost. The book
+-- has what the calls of all answered lines left
 pub record ServedInPart (remaining left before after : Option (List ℕ)) (old new : Ledger) : Type 0 where
   pub earlier : List ℕ
   pub piece : List ℕ

@@ -1,4 +1,4 @@
-use Rattle.std.proofs.Common.{◌++◌, length, arith}
+use Rattle.std.proofs.Common.{◌++◌, arith}
 use Rattle.std.proofs.lemmas.List.{length-append}
 use Rattle.stream.proofs.Fronts.{front_more}
 use Rattle.stream.proofs.Results.{on_err}
