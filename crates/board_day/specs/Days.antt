@@ -5,8 +5,8 @@ use Rattle.book.specs.Ledgers.{Ledger, fresh}
 use Rattle.stream.specs.Served.{Served, ServedInPart}
 
 -- an input was answered
-abbrev pub DayServed : Option (List ℕ) → Option (List ℕ) → Option (List ℕ) → Type 0
-DayServed remaining before after = (book : Ledger) × Served remaining before after (fresh least_day 30000) book
+abbrev pub DayServed : Option (List ℕ) → Option (List ℕ) → Option (List ℕ) → Option (List ℕ) → Type 0
+DayServed remaining left before after = (book : Ledger) × Served remaining left before after (fresh least_day 30000) book
 
 -- as much of it as there was before an error
 abbrev pub DayServedInPart : Option (List ℕ) → Option (List ℕ) → Option (List ℕ) → Option (List ℕ) → Type 0

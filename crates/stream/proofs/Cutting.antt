@@ -78,7 +78,7 @@ ended_first (b ∷ bs) more h =
     cond-false (eqb b 10) _ (onto b (lines_of (bs ++ (10 ∷ more)))) (ne_eqb b 10 (All-head (λ b. b ≢ 10) b bs h))
     ∙ ap (onto b) (ended_first bs more (All-tail (λ b. b ≢ 10) b bs h))
 
-rest_last : (rest : List ℕ) → Unbroken rest → lines_of rest ≡ last_line rest
+pub rest_last : (rest : List ℕ) → Unbroken rest → lines_of rest ≡ last_line rest
 rest_last [] h = refl
 rest_last (b ∷ bs) h =
     cond-false (eqb b 10) _ (onto b (lines_of bs)) (ne_eqb b 10 (All-head (λ b. b ≢ 10) b bs h))

@@ -8,12 +8,16 @@ use Rattle.answers.specs.Texts.{answer_text}
 use Rattle.answers.specs.declared.faults.LineFault.{LineFault}
 use Rattle.desk.specs.Desks.{DeskState}
 use Rattle.desk.specs.Responses.{Responded}
-use Rattle.stream.specs.Held.{AnsweredUpTo, AnswerPrinted, AppendsFront, InputClosed, LineEnded, LinesAnswered, PieceAnswered, View, first_bytes}
+use Rattle.stream.specs.Held.{AfterError, AnsweredUpTo, AnswerPrinted, AppendsFront, InputClosed, LineEnded, LinesAnswered, PieceAnswered, View, first_bytes}
 use Rattle.stream.specs.Inputs.{Splits, Unbroken, last_line}
 use Rattle.stream.specs.Transcripts.{IsTranscript}
 use Rattle.stream.proofs.Cutting.{held_more, splits_ended, splits_join, splits_open}
 use Rattle.stream.proofs.Fronts.{front_join, front_none}
 use Rattle.stream.proofs.OneTranscript.{transcript_held, transcript_join, transcript_line, transcript_none}
+
+-- what follows from what is so after an error
+pub after_error_weaker : {P Q : View → Type 0} (b : View) → ((v : View) → P v → Q v) → AfterError b P → AfterError b Q
+after_error_weaker b f x = record { lost = x.lost; held = x.held; few = x.few; is_so = f (record { contents = b.contents; unsent = x.lost; desk_state = b.desk_state; held = x.held }) x.is_so }
 
 pub lines_answered_none : (s : DeskState) (old : List ℕ) → LinesAnswered s old [] [] s old
 lines_answered_none s old = record {

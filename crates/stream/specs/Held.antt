@@ -1,5 +1,5 @@
 -- What a session holds between two pieces of its input, and what its calls do.
-use Rattle.std.specs.Prelude.{◌≡◌, ℕ, List, [], ◌∷◌, ◌++◌, take, Option}
+use Rattle.std.specs.Prelude.{◌≡◌, ℕ, ◌≤◌, List, [], ◌∷◌, ◌++◌, length, take, Option}
 use Rattle.std.specs.Io.KnownBytes.{Appends}
 use Rattle.book.specs.Ledgers.{Ledger}
 use Rattle.desk.specs.Desks.{DeskState, waiting}
@@ -38,9 +38,13 @@ pub record View : Type 0 where
 abbrev pub at_first : Option (List ℕ) → Ledger → View
 at_first contents m = record { contents = contents; unsent = []; desk_state = waiting m; held = [] }
 
--- a write or flush failed: this is so of what the writer has, of the desk and of the book; what the session holds counts no more
-abbrev pub WriteFailed : View → (View → Type 0) → Type 0
-WriteFailed b IsSo = (unsent : List ℕ) × (held : List ℕ) × IsSo (record { contents = b.contents; unsent = unsent; desk_state = b.desk_state; held = held })
+-- after an error this is so of what the writer has, of the desk and of the book; what the session still holds counts no more. Lost are
+-- answers of at most 8,289 bytes: the 8,192 that may wait, and one answer of at most 97 with its newline
+pub record AfterError (b : View) (IsSo : View → Type 0) : Type 0 where
+  pub lost : List ℕ
+  pub held : List ℕ
+  pub few : length lost ≤ 8289
+  pub is_so : IsSo (record { contents = b.contents; unsent = lost; desk_state = b.desk_state; held = held })
 
 -- the line that ends with these bytes is answered, and nothing is held of the next
 pub record LineEnded (a : View) (bytes : List ℕ) (b : View) : Type 0 where

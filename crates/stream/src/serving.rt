@@ -38,16 +38,18 @@ fn next_piece<R: Read>(input: &mut R, piece: &mut [u8; PIECE]) -> io::Result<usi
 }
 
 /// Answers the lines of an input until it ends. Answers go out before the next piece is read, so that whoever waits for one has it.
-/// An error is the reader's or the writer's, and ends it: a front of the answers to what was read has been written. An interrupted
-/// read or write is tried again. The laws beside it are of the words that it is told in: no lines have two transcripts, and every
-/// input falls into lines in one way.
+/// An error ends it. It is the reader's or the writer's, or made here: `WriteZero` where a write takes no byte, `Other` after 2^64 - 1
+/// turns. The answers to all lines that had ended before the last piece have then been written, and a front of the others'. An
+/// interrupted read, write or flush is tried again. The other clauses are facts about the definitions used here: no lines have two
+/// transcripts, and every input falls into lines in one way.
 pub fn serve<B: Reusable, R: Read, W: Write>(
     book: &mut B,
     input: &mut R,
     output: &mut W,
 ) -> io::Result<()>
-    ensures served { OnOk result (Served (R.remaining input.old) (W.contents output.old) (W.contents output.new) (B.meaning book.old) (B.meaning book.new)) }
+    ensures served { OnOk result (Served (R.remaining input.old) (R.remaining input.new) (W.contents output.old) (W.contents output.new) (B.meaning book.old) (B.meaning book.new)) }
     ensures failed { OnErr result (ServedInPart (R.remaining input.old) (R.remaining input.new) (W.contents output.old) (W.contents output.new) (B.meaning book.old) (B.meaning book.new)) }
+    ensures again { IfErr result (λ e. error_kind e ≢ ErrorKind.Interrupted) }
     ensures once { OneTranscript }
     ensures lines { SplitLines }
     ensures split { AllSplit }

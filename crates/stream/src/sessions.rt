@@ -1,13 +1,13 @@
 // A session: the desk, with what it holds of its input and of its output.
-ghost use Rattle.std.specs.Prelude.{◌≡◌, ℕ, List, Option, false, true, is_err, IfErr, IsErr, IsErrAnd, OnErr, OnOk};
+ghost use Rattle.std.specs.Prelude.{◌≡◌, ◌≢◌, ℕ, ◌≤◌, List, length, Option, false, true, is_err, IfErr, IsErr, IsErrAnd, OnErr, OnOk};
 ghost use Rattle.std.specs.IoError.{error_kind};
 ghost use Rattle.book.specs.Ledgers.{Ledger};
 ghost use Rattle.desk.specs.Desks.{desk_state};
-ghost use Rattle.stream.specs.Held.{AnsweredUpTo, AnswerPrinted, AnswersSent, Finished, Flushed, InputClosed, LineEnded, PieceAnswered, PieceTaken, WriteFailed, at_first};
+ghost use Rattle.stream.specs.Held.{AfterError, AnsweredUpTo, AnswerPrinted, AnswersSent, Finished, Flushed, InputClosed, LineEnded, PieceAnswered, PieceTaken, at_first};
 ghost use Rattle.stream.specs.Sessions.{has_failed, unsent_bytes, view_of};
 
 use crate::pending::Pending;
-use crate::unsent::Unsent;
+use crate::unsent::{Unsent, flush_writer};
 use answers::writing::ROOM;
 use book::books::Reusable;
 use desk::desks::Desk;
@@ -31,15 +31,17 @@ fn print_answer<B: Reusable, W: Write>(
         OnOk result (AnswerPrinted line.now before (W.contents writer.old) (W.contents writer.new) (unsent_bytes unsent.old) (unsent_bytes unsent.new) after) }
     ensures failed { let before = desk_state desk.old (B.meaning book.old) in
         let after = desk_state desk.new (B.meaning book.new) in
-        OnErr result ((rest : List ℕ) × AnswerPrinted line.now before (W.contents writer.old) (W.contents writer.new) (unsent_bytes unsent.old) rest after) }
+        OnErr result ((rest : List ℕ) × (length rest ≤ 8289) × AnswerPrinted line.now before (W.contents writer.old) (W.contents writer.new) (unsent_bytes unsent.old) rest after) }
+    ensures again { IfErr result (λ e. error_kind e ≢ ErrorKind.Interrupted) }
 {
     let mut answer = [NEWLINE; ROOM + 1];
     let n = desk.respond(book, line, &mut answer).unwrap();
     unsent.put(writer, &answer[..=n])
 }
 
-/// A desk with what it holds of an input that has not ended and of answers not written yet. After an error it answers nothing any
-/// more: some of its answers may be lost.
+/// A desk with what it holds of an input that has not ended and of answers not written yet. An error is the writer's, or made here:
+/// `WriteZero` where a write takes no byte, `Other` after 2^64 - 1 interrupted tries. After it a session answers nothing any more: some
+/// of its answers may be lost, of at most 8,289 bytes.
 #[derive(Drop)]
 pub struct Session {
     desk: Desk,
@@ -81,7 +83,8 @@ impl Session {
             OnOk result (LineEnded before bytes.now after) }
         ensures failed { let before = view_of self.old (W.contents writer.old) (B.meaning book.old) in
             let after = view_of self.new (W.contents writer.new) (B.meaning book.new) in
-            OnErr result (WriteFailed after (LineEnded before bytes.now)) }
+            OnErr result (AfterError after (LineEnded before bytes.now)) }
+        ensures again { IfErr result (λ e. error_kind e ≢ ErrorKind.Interrupted) }
     {
         if self.pending.line().is_empty() {
             return print_answer(&mut self.desk, &mut self.unsent, book, writer, bytes);
@@ -105,7 +108,8 @@ impl Session {
             OnOk result (PieceAnswered before piece.now after) }
         ensures failed { let before = view_of self.old (W.contents writer.old) (B.meaning book.old) in
             let after = view_of self.new (W.contents writer.new) (B.meaning book.new) in
-            OnErr result ((rest : List ℕ) × WriteFailed after (AnsweredUpTo before piece.now rest)) }
+            OnErr result ((rest : List ℕ) × AfterError after (AnsweredUpTo before piece.now rest)) }
+        ensures again { IfErr result (λ e. error_kind e ≢ ErrorKind.Interrupted) }
     {
         let mut rest = piece;
         while let Some(end) = memchr(NEWLINE, rest) {
@@ -123,7 +127,8 @@ impl Session {
             OnOk result (InputClosed before after) }
         ensures failed { let before = view_of self.old (W.contents writer.old) (B.meaning book.old) in
             let after = view_of self.new (W.contents writer.new) (B.meaning book.new) in
-            OnErr result (WriteFailed after (InputClosed before)) }
+            OnErr result (AfterError after (InputClosed before)) }
+        ensures again { IfErr result (λ e. error_kind e ≢ ErrorKind.Interrupted) }
     {
         if self.pending.line().is_empty() {
             return Ok(());
@@ -136,10 +141,11 @@ impl Session {
         ensures flushed { OnOk result ((m : Ledger) →
             Flushed (view_of self.old (W.contents writer.old) m) (view_of self.new (W.contents writer.new) m)) }
         ensures failed { OnErr result ((m : Ledger) →
-            WriteFailed (view_of self.new (W.contents writer.new) m) (AnswersSent (view_of self.old (W.contents writer.old) m))) }
+            AfterError (view_of self.new (W.contents writer.new) m) (AnswersSent (view_of self.old (W.contents writer.old) m))) }
+        ensures again { IfErr result (λ e. error_kind e ≢ ErrorKind.Interrupted) }
     {
         self.unsent.send(writer)?;
-        writer.flush()
+        flush_writer(writer)
     }
 
     // Answers a piece and lets no answer wait.
@@ -154,7 +160,8 @@ impl Session {
             OnOk result (PieceTaken before piece.now after) }
         ensures failed { let before = view_of self.old (W.contents writer.old) (B.meaning book.old) in
             let after = view_of self.new (W.contents writer.new) (B.meaning book.new) in
-            OnErr result ((rest : List ℕ) × WriteFailed after (AnsweredUpTo before piece.now rest)) }
+            OnErr result ((rest : List ℕ) × AfterError after (AnsweredUpTo before piece.now rest)) }
+        ensures again { IfErr result (λ e. error_kind e ≢ ErrorKind.Interrupted) }
     {
         self.answer_piece(book, writer, piece)?;
         self.send(writer)
@@ -171,7 +178,8 @@ impl Session {
             OnOk result (Finished before after) }
         ensures failed { let before = view_of self.old (W.contents writer.old) (B.meaning book.old) in
             let after = view_of self.new (W.contents writer.new) (B.meaning book.new) in
-            OnErr result (WriteFailed after (InputClosed before)) }
+            OnErr result (AfterError after (InputClosed before)) }
+        ensures again { IfErr result (λ e. error_kind e ≢ ErrorKind.Interrupted) }
     {
         self.close(book, writer)?;
         self.send(writer)
@@ -188,13 +196,14 @@ impl Session {
         Ok(())
     }
 
-    /// Hands to the writer all that was printed, and asks it to pass it on. An error is the writer's, and ends the session: from then on
-    /// each call is refused with `Other`, and nothing changes.
+    /// Hands to the writer all that was printed, and asks it to pass it on. An error ends the session: from then on each call is refused
+    /// with `Other`, and nothing changes.
     pub fn flush<W: Write>(&mut self, writer: &mut W) -> io::Result<()>
         ensures flushed { OnOk result ((m : Ledger) →
             Flushed (view_of self.old (W.contents writer.old) m) (view_of self.new (W.contents writer.new) m)) }
         ensures failed { has_failed self.old ≡ false → OnErr result ((m : Ledger) →
-            WriteFailed (view_of self.new (W.contents writer.new) m) (AnswersSent (view_of self.old (W.contents writer.old) m))) }
+            AfterError (view_of self.new (W.contents writer.new) m) (AnswersSent (view_of self.old (W.contents writer.old) m))) }
+        ensures again { IfErr result (λ e. error_kind e ≢ ErrorKind.Interrupted) }
         ensures ends { has_failed self.new ≡ is_err result }
         ensures refused { has_failed self.old ≡ true → IsErrAnd result (λ e. error_kind e ≡ ErrorKind.Other) }
         ensures unchanged { has_failed self.old ≡ true → (m : Ledger) →
@@ -207,8 +216,8 @@ impl Session {
     }
 
     /// Takes a piece of the input and lets no answer wait: whoever gave the piece has the answers before the next one is asked for. An
-    /// error is the writer's, and ends the session: the lines that ended in a front of the piece have been answered, and the writer has a
-    /// front of the answers. From then on each call is refused with `Other`, and nothing changes.
+    /// error ends the session: the lines that ended in a front of the piece have been answered, and the writer has a front of the
+    /// answers. From then on each call is refused with `Other`, and nothing changes.
     pub fn take_piece<B: Reusable, W: Write>(
         &mut self,
         book: &mut B,
@@ -220,7 +229,8 @@ impl Session {
             OnOk result (PieceTaken before piece.now after) }
         ensures failed { let before = view_of self.old (W.contents writer.old) (B.meaning book.old) in
             let after = view_of self.new (W.contents writer.new) (B.meaning book.new) in
-            has_failed self.old ≡ false → OnErr result ((rest : List ℕ) × WriteFailed after (AnsweredUpTo before piece.now rest)) }
+            has_failed self.old ≡ false → OnErr result ((rest : List ℕ) × AfterError after (AnsweredUpTo before piece.now rest)) }
+        ensures again { IfErr result (λ e. error_kind e ≢ ErrorKind.Interrupted) }
         ensures ends { has_failed self.new ≡ is_err result }
         ensures refused { has_failed self.old ≡ true → IsErrAnd result (λ e. error_kind e ≡ ErrorKind.Other) }
         ensures unchanged { let before = view_of self.old (W.contents writer.old) (B.meaning book.old) in
@@ -232,16 +242,16 @@ impl Session {
         taken
     }
 
-    /// Answers what follows the last newline, if anything does: the input has ended. An error is the writer's, and ends the session: the
-    /// line has been answered, and the writer has a front of the answers. From then on each call is refused with `Other`, and nothing
-    /// changes.
+    /// Answers what follows the last newline, if anything does: the input has ended. An error ends the session: the line has been
+    /// answered, and the writer has a front of the answers. From then on each call is refused with `Other`, and nothing changes.
     pub fn finish<B: Reusable, W: Write>(&mut self, book: &mut B, writer: &mut W) -> io::Result<()>
         ensures finished { let before = view_of self.old (W.contents writer.old) (B.meaning book.old) in
             let after = view_of self.new (W.contents writer.new) (B.meaning book.new) in
             OnOk result (Finished before after) }
         ensures failed { let before = view_of self.old (W.contents writer.old) (B.meaning book.old) in
             let after = view_of self.new (W.contents writer.new) (B.meaning book.new) in
-            has_failed self.old ≡ false → OnErr result (WriteFailed after (InputClosed before)) }
+            has_failed self.old ≡ false → OnErr result (AfterError after (InputClosed before)) }
+        ensures again { IfErr result (λ e. error_kind e ≢ ErrorKind.Interrupted) }
         ensures ends { has_failed self.new ≡ is_err result }
         ensures refused { has_failed self.old ≡ true → IsErrAnd result (λ e. error_kind e ≡ ErrorKind.Other) }
         ensures unchanged { let before = view_of self.old (W.contents writer.old) (B.meaning book.old) in

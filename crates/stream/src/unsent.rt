@@ -30,11 +30,30 @@ fn write_some<W: Write>(writer: &mut W, bytes: &[u8]) -> io::Result<usize>
     Err(ErrorKind::Other.into())
 }
 
+// Asks the writer to pass on what it has. A flush that a signal interrupts is tried again.
+pub(crate) fn flush_writer<W: Write>(writer: &mut W) -> io::Result<()>
+    ensures kept { Keeps (W.contents writer.old) (W.contents writer.new) }
+    ensures again { IfErr result (λ e. error_kind e ≢ ErrorKind.Interrupted) }
+{
+    for _ in 0..u64::MAX {
+        match writer.flush() {
+            Ok(()) => return Ok(()),
+            Err(e) => {
+                if e.kind() != ErrorKind::Interrupted {
+                    return Err(e);
+                }
+            }
+        }
+    }
+    Err(ErrorKind::Other.into())
+}
+
 // Hands the bytes to the writer, all of them or, on an error, a front of them.
 #[tactic(auto, using(crate::proofs::Fronts::front_wrote))]
 fn write_bytes<W: Write>(writer: &mut W, bytes: &[u8]) -> io::Result<()>
     ensures all { OnOk result (Appends (W.contents writer.old) (W.contents writer.new) bytes.now) }
-    ensures front { OnErr result ((rest : List ℕ) × AppendsFront (W.contents writer.old) (W.contents writer.new) bytes.now rest) }
+    ensures front { OnErr result ((rest : List ℕ) × (length rest ≤ length bytes.now) × AppendsFront (W.contents writer.old) (W.contents writer.new) bytes.now rest) }
+    ensures again { IfErr result (λ e. error_kind e ≢ ErrorKind.Interrupted) }
 {
     let mut rest = bytes;
     while !rest.is_empty() {
@@ -68,7 +87,8 @@ impl Unsent {
     pub(crate) fn send<W: Write>(&mut self, writer: &mut W) -> io::Result<()>
         ensures all { OnOk result (Appends (W.contents writer.old) (W.contents writer.new) (unsent_bytes self.old)) }
         ensures empty { OnOk result (self.new.len ≡ 0) }
-        ensures front { OnErr result ((rest : List ℕ) × AppendsFront (W.contents writer.old) (W.contents writer.new) (unsent_bytes self.old) rest) }
+        ensures front { OnErr result ((rest : List ℕ) × (length rest ≤ 8192) × AppendsFront (W.contents writer.old) (W.contents writer.new) (unsent_bytes self.old) rest) }
+        ensures again { IfErr result (λ e. error_kind e ≢ ErrorKind.Interrupted) }
     {
         write_bytes(writer, &self.bytes[..self.len])?;
         self.len = 0;
@@ -80,7 +100,8 @@ impl Unsent {
         requires { size ≤ 97 }
         ensures same { OnOk result (AppendsFront (W.contents writer.old) (W.contents writer.new) (unsent_bytes self.old) (unsent_bytes self.new)) }
         ensures room { OnOk result (self.new.len + size ≤ 8192) }
-        ensures front { OnErr result ((rest : List ℕ) × AppendsFront (W.contents writer.old) (W.contents writer.new) (unsent_bytes self.old) rest) }
+        ensures front { OnErr result ((rest : List ℕ) × (length rest ≤ 8192) × AppendsFront (W.contents writer.old) (W.contents writer.new) (unsent_bytes self.old) rest) }
+        ensures again { IfErr result (λ e. error_kind e ≢ ErrorKind.Interrupted) }
     {
         if SIZE - self.len < size {
             self.send(writer)?;
@@ -92,7 +113,8 @@ impl Unsent {
     pub(crate) fn put<W: Write>(&mut self, writer: &mut W, answer: &[u8]) -> io::Result<()>
         requires { length answer.now ≤ 97 }
         ensures all { OnOk result (AppendsFront (W.contents writer.old) (W.contents writer.new) (unsent_bytes self.old ++ answer.now) (unsent_bytes self.new)) }
-        ensures front { OnErr result ((rest : List ℕ) × AppendsFront (W.contents writer.old) (W.contents writer.new) (unsent_bytes self.old ++ answer.now) rest) }
+        ensures front { OnErr result ((rest : List ℕ) × (length rest ≤ 8289) × AppendsFront (W.contents writer.old) (W.contents writer.new) (unsent_bytes self.old ++ answer.now) rest) }
+        ensures again { IfErr result (λ e. error_kind e ≢ ErrorKind.Interrupted) }
     {
         self.make_room(writer, answer.len())?;
         let end = self.len + answer.len();

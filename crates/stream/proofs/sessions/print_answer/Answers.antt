@@ -15,7 +15,8 @@ returns-clause-failed g c =
     on_err_weaker c.put.result
     (λ x. (
       x.0,
+      x.1,
       printed_line c.args.line.now _ _ _ _ _ _ c.respond.new.out _ c.respond.result c.unwrap-n.result c.respond.ensures.responded c.unwrap-n.ensures
-          (IfOk-at_ok (λ n. n ≤ 96) c.unwrap-n.ensures c.respond.ensures.short) refl x.1,
+          (IfOk-at_ok (λ n. n ≤ 96) c.unwrap-n.ensures c.respond.ensures.short) refl x.2,
     ))
     c.put.ensures.front

@@ -2,7 +2,7 @@ use Rattle.std.proofs.Common.{List, ℕ, ◌+◌, drop, sym, subst}
 use Rattle.std.proofs.lemmas.List.{take_rest}
 use Rattle.stream.specs.Held.{AnsweredUpTo, View}
 use Rattle.stream.specs.Sessions.{view_of}
-use Rattle.stream.proofs.Pieces.{up_to_all, up_to_line, up_to_none}
+use Rattle.stream.proofs.Pieces.{after_error_weaker, up_to_all, up_to_line, up_to_none}
 use Rattle.stream.proofs.Results.{on_err}
 use Rattle.stream.proofs.sessions.Session.answer_piece.Goals as goal
 
@@ -27,7 +27,7 @@ returns-in_err-end_line-clause-failed g c =
     let x = c.in_err-end_line.ensures.failed in
     on_err c.from_residual.result (
       drop (n + 1) rest,
-      (x.0, x.1, up_to_line c.args.piece.now rest n _ _ _ c.in-Some.ensures.0 c.in-Some.ensures.1 c.loop-end.invariant x.2),
+      after_error_weaker _ (λ v. up_to_line c.args.piece.now rest n _ _ v c.in-Some.ensures.0 c.in-Some.ensures.1 c.loop-end.invariant) x,
     )
 
 pub returns-clause-answered : goal.returns-clause-answered

@@ -3,7 +3,7 @@ use Rattle.std.proofs.lemmas.Bool.Decides.{nat_tests}
 use Rattle.std.proofs.lemmas.List.{nil_from_length}
 use Rattle.std.proofs.lemmas.Result.{on_err_weaker, on_ok_weaker}
 use Rattle.stream.specs.Sessions.{view_of}
-use Rattle.stream.proofs.Pieces.{closed_line, closed_none}
+use Rattle.stream.proofs.Pieces.{after_error_weaker, closed_line, closed_none}
 use Rattle.stream.proofs.sessions.Session.close.Goals as goal
 
 pub returns-then-is_empty-clause-closed : goal.returns-then-is_empty-clause-closed
@@ -24,5 +24,5 @@ pub returns-clause-failed : goal.returns-clause-failed
 returns-clause-failed g c =
     let a = view_of c.args.self.now (g.W.Write.contents c.args.writer.now) (g.B.Book.meaning c.args.book.now) in
     on_err_weaker c.end_line.result
-    (λ x. (x.0, x.1, closed_line a _ (λ none. let empty = ap length (c.line.ensures ∙ none) in let test = c.if-is_empty.ensures in grind (arith, nat_tests)) x.2))
+    (after_error_weaker _ (λ v. closed_line a v (λ none. let empty = ap length (c.line.ensures ∙ none) in let test = c.if-is_empty.ensures in grind (arith, nat_tests))))
     c.end_line.ensures.failed

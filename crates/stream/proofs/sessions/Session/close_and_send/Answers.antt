@@ -1,4 +1,5 @@
 use Rattle.std.proofs.lemmas.Result.{on_err_weaker, on_ok_weaker}
+use Rattle.stream.proofs.Pieces.{after_error_weaker}
 use Rattle.stream.proofs.Whole.{closed_sent, finished}
 use Rattle.stream.proofs.sessions.Session.close_and_send.Goals as goal
 
@@ -10,4 +11,4 @@ returns-clause-finished g c =
 pub returns-clause-failed : goal.returns-clause-failed
 returns-clause-failed g c =
     let m = g.B.Book.meaning c.close.new.book in
-    on_err_weaker c.send.result (λ f. let x = f m in (x.0, x.1, closed_sent _ _ _ c.in_ok-close.ensures.closed x.2)) c.send.ensures.failed
+    on_err_weaker c.send.result (λ f. after_error_weaker _ (λ v. closed_sent _ _ v c.in_ok-close.ensures.closed) (f m)) c.send.ensures.failed

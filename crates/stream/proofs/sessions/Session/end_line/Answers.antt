@@ -16,13 +16,18 @@ pub returns-then-is_empty-clause-failed : goal.returns-then-is_empty-clause-fail
 returns-then-is_empty-clause-failed g c =
     let none : length c.line.result.now ≡ 0 = let test = c.if-is_empty.ensures in grind (arith, nat_tests) in
     let empty = sym c.line.ensures ∙ nil_from_length c.line.result.now none in
-    on_err_weaker c.print_answer.result (λ x. (x.0, [], ended_whole _ _ c.args.bytes.now empty refl x.1)) c.print_answer.ensures.failed
+    on_err_weaker c.print_answer.result (λ x. record { lost = x.0; held = []; few = x.1; is_so = ended_whole _ _ c.args.bytes.now empty refl x.2 }) c.print_answer.ensures.failed
 
 pub returns-in_err-print_answer-clause-failed : goal.returns-in_err-print_answer-clause-failed
 returns-in_err-print_answer-clause-failed g c =
     let x = c.in_err-print_answer.ensures.failed in
     on_err c.from_residual.result
-    (x.0, [], ended_held _ _ c.args.bytes.now c.line-line.result.now (c.line-line.ensures ∙ c.push.ensures) refl x.1)
+    (record {
+      lost = x.0;
+      held = [];
+      few = x.1;
+      is_so = ended_held _ _ c.args.bytes.now c.line-line.result.now (c.line-line.ensures ∙ c.push.ensures) refl x.2;
+    })
 
 pub returns-clause-ended : goal.returns-clause-ended
 returns-clause-ended g c =
