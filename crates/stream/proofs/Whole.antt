@@ -102,7 +102,7 @@ MoreAnswered left s t begun piece out =
 -- an error in a last piece
 served_last : (x y z contents : Option (List ℕ)) (m : Ledger) (b d : View) (piece out : List ℕ)
     → Reached x y (at_first contents m) b → Consumes y z piece → length piece ≤ 8192
-    → AppendsFront b.contents d.contents (b.unsent ++ out) d.unsent → length d.unsent ≤ 8289
+    → AppendsFront b.contents d.contents (b.unsent ++ out) d.unsent → length d.unsent ≤ 4193
     → ((begun : List ℕ) → Unbroken begun → b.held ≡ first_bytes begun → MoreAnswered z b.desk_state d.desk_state begun piece out)
     → ServedInPart x z contents d.contents m d.desk_state.book
 served_last x y z contents m b d piece out r read short written few then =
@@ -134,7 +134,7 @@ served_last x y z contents m b d piece out r read short written few then =
 
 -- an error at the end of the input
 pub served_to_end : (x y z contents : Option (List ℕ)) (m : Ledger) (b d : View) (none : List ℕ)
-    → Reached x y (at_first contents m) b → Consumes y z none → none ≡ [] → IsAtEnd z → length d.unsent ≤ 8289 → InputClosed b d
+    → Reached x y (at_first contents m) b → Consumes y z none → none ≡ [] → IsAtEnd z → length d.unsent ≤ 4193 → InputClosed b d
     → ServedInPart x z contents d.contents m d.desk_state.book
 served_to_end x y z contents m b d none r read is end few f =
     served_last x y z contents m b d [] f.out r (subst (Consumes y z) is read) (omega arith) f.written few
@@ -146,7 +146,7 @@ served_to_end x y z contents m b d none r read is end few f =
 
 -- an error in a piece
 pub served_in_piece : (x y z contents : Option (List ℕ)) (m : Ledger) (b d : View) (piece rest : List ℕ)
-    → Reached x y (at_first contents m) b → Consumes y z piece → length piece ≤ 8192 → length d.unsent ≤ 8289 → AnsweredUpTo b piece rest d
+    → Reached x y (at_first contents m) b → Consumes y z piece → length piece ≤ 8192 → length d.unsent ≤ 4193 → AnsweredUpTo b piece rest d
     → ServedInPart x z contents d.contents m d.desk_state.book
 served_in_piece x y z contents m b d piece rest r read short few p =
     served_last x y z contents m b d piece p.answered.out r read short p.answered.written few

@@ -39,11 +39,11 @@ abbrev pub at_first : Option (List ℕ) → Ledger → View
 at_first contents m = record { contents = contents; unsent = []; desk_state = waiting m; held = [] }
 
 -- after an error this is so of what the writer has, of the desk and of the book; what the session still holds counts no more. Lost are
--- answers of at most 8,289 bytes: the 8,192 that may wait, and one answer of at most 97 with its newline
+-- answers of at most 4,193 bytes: the 4,096 that may wait, and one answer of at most 97 with its newline
 pub record AfterError (b : View) (IsSo : View → Type 0) : Type 0 where
   pub lost : List ℕ
   pub held : List ℕ
-  pub few : length lost ≤ 8289
+  pub few : length lost ≤ 4193
   pub is_so : IsSo (record { contents = b.contents; unsent = lost; desk_state = b.desk_state; held = held })
 
 -- the line that ends with these bytes is answered, and nothing is held of the next

@@ -20,7 +20,7 @@ pub record Served (remaining left before after : Option (List ℕ)) (old new : L
 
 -- what was read is an earlier part and a last piece of at most 8,192 bytes. All lines that ended in the earlier part are answered, and
 -- their whole transcript was written. Of the lines that ended in what follows them, the line begun there and the piece, the first are
--- answered, or all lines where the input has ended; of their transcript a front was written, and at most 8,289 bytes are lost. The book
+-- answered, or all lines where the input has ended; of their transcript a front was written, and at most 4,193 bytes are lost. The book
 -- has what the calls of all answered lines left
 pub record ServedInPart (remaining left before after : Option (List ℕ)) (old new : Ledger) : Type 0 where
   pub earlier : List ℕ
@@ -40,5 +40,5 @@ pub record ServedInPart (remaining left before after : Option (List ℕ)) (old n
   pub first : FirstLines (begun ++ piece) more ⊎ (IsAtEnd left × (more ≡ lines_of (begun ++ piece)))
   pub more_answered : IsTranscript between more (sent ++ lost) desk_state
   pub written : Appends before after (out ++ sent)
-  pub few : length lost ≤ 8289
+  pub few : length lost ≤ 4193
   pub book : new ≡ desk_state.book

@@ -31,7 +31,7 @@ fn print_answer<B: Reusable, W: Write>(
         OnOk result (AnswerPrinted line.now before (W.contents writer.old) (W.contents writer.new) (unsent_bytes unsent.old) (unsent_bytes unsent.new) after) }
     ensures failed { let before = desk_state desk.old (B.meaning book.old) in
         let after = desk_state desk.new (B.meaning book.new) in
-        OnErr result ((rest : List ℕ) × (length rest ≤ 8289) × AnswerPrinted line.now before (W.contents writer.old) (W.contents writer.new) (unsent_bytes unsent.old) rest after) }
+        OnErr result ((rest : List ℕ) × (length rest ≤ 4193) × AnswerPrinted line.now before (W.contents writer.old) (W.contents writer.new) (unsent_bytes unsent.old) rest after) }
     ensures again { IfErr result (λ e. error_kind e ≢ ErrorKind.Interrupted) }
 {
     let mut answer = [NEWLINE; ROOM + 1];
@@ -41,7 +41,7 @@ fn print_answer<B: Reusable, W: Write>(
 
 /// A desk with what it holds of an input that has not ended and of answers not written yet. An error is the writer's, or made here:
 /// `WriteZero` where a write takes no byte, `Other` after 2^64 - 1 interrupted tries. After it a session answers nothing any more: some
-/// of its answers may be lost, of at most 8,289 bytes.
+/// of its answers may be lost, of at most 4,193 bytes.
 #[derive(Drop)]
 pub struct Session {
     desk: Desk,

@@ -7,7 +7,7 @@ ghost use Rattle.stream.specs.Held.{AppendsFront};
 use std::io;
 use std::io::{ErrorKind, Write};
 
-const SIZE: usize = 8192;
+const SIZE: usize = 4096;
 
 // Hands some of the bytes to the writer, one at least. A write that a signal interrupts is tried again.
 fn write_some<W: Write>(writer: &mut W, bytes: &[u8]) -> io::Result<usize>
@@ -68,7 +68,7 @@ fn write_bytes<W: Write>(writer: &mut W, bytes: &[u8]) -> io::Result<()>
 pub(crate) struct Unsent {
     bytes: [u8; SIZE],
     len: usize,
-    ghost few: { len ≤ 8192 },
+    ghost few: { len ≤ 4096 },
 }
 
 impl Unsent {
@@ -87,7 +87,7 @@ impl Unsent {
     pub(crate) fn send<W: Write>(&mut self, writer: &mut W) -> io::Result<()>
         ensures all { OnOk result (Appends (W.contents writer.old) (W.contents writer.new) (unsent_bytes self.old)) }
         ensures empty { OnOk result (self.new.len ≡ 0) }
-        ensures front { OnErr result ((rest : List ℕ) × (length rest ≤ 8192) × AppendsFront (W.contents writer.old) (W.contents writer.new) (unsent_bytes self.old) rest) }
+        ensures front { OnErr result ((rest : List ℕ) × (length rest ≤ 4096) × AppendsFront (W.contents writer.old) (W.contents writer.new) (unsent_bytes self.old) rest) }
         ensures again { IfErr result (λ e. error_kind e ≢ ErrorKind.Interrupted) }
     {
         write_bytes(writer, &self.bytes[..self.len])?;
@@ -99,8 +99,8 @@ impl Unsent {
     fn make_room<W: Write>(&mut self, writer: &mut W, size: usize) -> io::Result<()>
         requires { size ≤ 97 }
         ensures same { OnOk result (AppendsFront (W.contents writer.old) (W.contents writer.new) (unsent_bytes self.old) (unsent_bytes self.new)) }
-        ensures room { OnOk result (self.new.len + size ≤ 8192) }
-        ensures front { OnErr result ((rest : List ℕ) × (length rest ≤ 8192) × AppendsFront (W.contents writer.old) (W.contents writer.new) (unsent_bytes self.old) rest) }
+        ensures room { OnOk result (self.new.len + size ≤ 4096) }
+        ensures front { OnErr result ((rest : List ℕ) × (length rest ≤ 4096) × AppendsFront (W.contents writer.old) (W.contents writer.new) (unsent_bytes self.old) rest) }
         ensures again { IfErr result (λ e. error_kind e ≢ ErrorKind.Interrupted) }
     {
         if SIZE - self.len < size {
@@ -113,7 +113,7 @@ impl Unsent {
     pub(crate) fn put<W: Write>(&mut self, writer: &mut W, answer: &[u8]) -> io::Result<()>
         requires { length answer.now ≤ 97 }
         ensures all { OnOk result (AppendsFront (W.contents writer.old) (W.contents writer.new) (unsent_bytes self.old ++ answer.now) (unsent_bytes self.new)) }
-        ensures front { OnErr result ((rest : List ℕ) × (length rest ≤ 8289) × AppendsFront (W.contents writer.old) (W.contents writer.new) (unsent_bytes self.old ++ answer.now) rest) }
+        ensures front { OnErr result ((rest : List ℕ) × (length rest ≤ 4193) × AppendsFront (W.contents writer.old) (W.contents writer.new) (unsent_bytes self.old ++ answer.now) rest) }
         ensures again { IfErr result (λ e. error_kind e ≢ ErrorKind.Interrupted) }
     {
         self.make_room(writer, answer.len())?;
