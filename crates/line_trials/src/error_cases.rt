@@ -13,7 +13,7 @@ use stream::sessions::Session;
 const LINES: &[u8] =
     b"day 61200 117900 131400 143100 126000 10 10 10 10\nlist 1 0 - 145200 - 0 0\nbell open\ntrade 0 142199 145150 10\n";
 
-// Takes so many bytes, three at a time, and then none; a signal interrupts it before each time.
+// Takes so many bytes, three at a time, and then none; a signal interrupts each write and each flush at first.
 #[derive(Drop)]
 struct Narrow {
     got: Vec<u8>,
@@ -43,6 +43,10 @@ impl Write for Narrow {
     }
 
     fn flush(&mut self) -> io::Result<()> {
+        self.interrupted = !self.interrupted;
+        if self.interrupted {
+            return Err(ErrorKind::Interrupted.into());
+        }
         match self.at_flush {
             Some(kind) => Err(kind.into()),
             None => Ok(()),
