@@ -17,9 +17,9 @@ use std::io::{ErrorKind, Read, Write};
 use stream::serving::serve;
 
 /// Answers the lines of an input until it ends, from a desk before any day line and an empty board of 30,000 places. An error is one of
-/// `serve`: the answers to all lines that had ended before the last piece have then been written, and a front of the others'. The other
-/// clauses are facts about the definitions used here: no lines have two transcripts, every input falls into lines in one way, and lines
-/// are answered one by one, where a refused one leaves house and book as they were.
+/// `serve`: the answers to all lines that had ended before the last 8,192 bytes read have then been written, and a front of the others'.
+/// The other clauses are facts about the definitions used here: no lines have two transcripts, every input falls into lines in one way,
+/// and lines are answered one by one, where a refused one leaves house and book as they were.
 pub fn serve_day<R: Read, W: Write>(input: &mut R, output: &mut W) -> io::Result<()>
     ensures served { OnOk result (DayServed (R.remaining input.old) (R.remaining input.new) (W.contents output.old) (W.contents output.new)) }
     ensures failed { OnErr result (DayServedInPart (R.remaining input.old) (R.remaining input.new) (W.contents output.old) (W.contents output.new)) }

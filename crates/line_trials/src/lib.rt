@@ -1,5 +1,5 @@
-// Small cases of lines and of answers, and of errors of the writer and the reader, worked out by hand from the rules. In a crate of their own, since a crate with tests is proved
-// twice.
+// Small cases of lines and of answers, and of errors of the writer and the reader, worked out by hand from the rules. In a crate of
+// their own, since a crate with tests is proved twice.
 #![tactic(auto)]
 
 #[cfg(test)]

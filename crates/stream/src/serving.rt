@@ -39,7 +39,7 @@ fn next_piece<R: Read>(input: &mut R, piece: &mut [u8; PIECE]) -> io::Result<usi
 
 /// Answers the lines of an input until it ends. Answers go out before the next piece is read, so that whoever waits for one has it.
 /// An error ends it. It is the reader's or the writer's, or made here: `WriteZero` where a write takes no byte, `Other` after 2^64 - 1
-/// turns. The answers to all lines that had ended before the last piece have then been written, and a front of the others'. An
+/// turns. The answers to all lines that had ended before the last 8,192 bytes read have then been written, and a front of the others'. An
 /// interrupted read, write or flush is tried again. The other clauses are facts about the definitions used here: no lines have two
 /// transcripts, and every input falls into lines in one way.
 pub fn serve<B: Reusable, R: Read, W: Write>(
