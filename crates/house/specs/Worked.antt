@@ -14,7 +14,7 @@ use Rattle.rows.specs.declared.steps.Step.{Step}
 use Rattle.rows.specs.declared.steps.Step.TheVariants as steps
 use Rattle.house.specs.Calls.{State}
 use Rattle.house.specs.Faults.{house_number}
-use Rattle.house.specs.Found.{finds}
+use Rattle.house.specs.FindsPrice.{FindsPrice}
 use Rattle.house.specs.Questions.{settle_answer}
 use Rattle.house.specs.Rolls.{Roll, none_listed, with_listed}
 use Rattle.house.specs.Series.{bare_terms, blank}
@@ -52,13 +52,13 @@ with_figures_only spread quote = record {
   money = pos 0;
 }
 
--- what a step finds on the multiples of a tick where nothing is known but its matter
-abbrev pub found_by : ℕ → Step → Matter → Option ℤ
-found_by tick step (matters.Theory v) = finds (multiple tick) None (with_theory_only v) (with_figures_only None None) step
-found_by tick step (matters.Quote bid ask) =
-    finds (multiple tick) None blank (with_figures_only None (Some (record { bid = Some bid; ask = Some ask }))) step
-found_by tick step (matters.Spread reference spread) =
-    finds (multiple tick) (Some reference) blank (with_figures_only (Some spread) None) step
+-- that a step finds a price on the multiples of a tick where nothing is known but its matter
+abbrev pub FindsBy : ℕ → Step → Matter → ℤ → Type 0
+FindsBy tick step (matters.Theory v) p = FindsPrice (multiple tick) None (with_theory_only v) (with_figures_only None None) step p
+FindsBy tick step (matters.Quote bid ask) p =
+    FindsPrice (multiple tick) None blank (with_figures_only None (Some (record { bid = Some bid; ask = Some ask }))) step p
+FindsBy tick step (matters.Spread reference spread) p =
+    FindsPrice (multiple tick) (Some reference) blank (with_figures_only (Some spread) None) step p
 
 -- the series listed before; number 0 is the first
 abbrev pub number_before : ℕ → Option ℕ
@@ -81,7 +81,7 @@ AnswerIs answer (Err r) = (answer ≡ Err (NoPrice r.origin)) × (house_number (
 
 abbrev pub Holds : WorkedPrice → Type 0
 Holds (cases.Rounding tick way fraction price) = RoundsTo way tick fraction.0 fraction.1 price
-Holds (cases.Finding tick step matter price) = found_by tick step matter ≡ Some price
+Holds (cases.Finding tick step matter price) = FindsBy tick step matter price
 Holds (cases.Answer tick edition family references answer) =
     (d : Day) (capacity : ℕ)
     → AnswerIs (settle_answer (λ l. multiple tick) edition (pos (length references)) (closed_with (family ∷ references)) (fresh d capacity)) answer
