@@ -131,7 +131,7 @@ module _ (P : ℕ → ℤ → Bool) (near : (n : ℕ) (z : ℤ) → Near (P n) z
       by None none = refusal unruled none
       by (Some s) h = inr (unruled, stands_at s h)
 
-  answered_explained : Settles P ed x u (answered P ed x u)
+  pub answered_explained : Settles P ed x u (answered P ed x u)
   answered_explained = by x.series.ruling refl
     where
       by : (o : Option Ruling) → x.series.ruling ≡ o → Settles P ed x u (ruled_first o (by_row P ed x u))

@@ -15,11 +15,11 @@ pub struct Settlement {
     pub time: Option<i32>,
 }
 
-/// A price that a step found, with the time of its evidence.
-#[derive(Clone, Copy)]
-pub(crate) struct TimedPrice {
+/// What a step finds: a price with the time of its evidence.
+#[derive(Clone, Copy, PartialEq, Eq, Debug)]
+pub struct TimedPrice {
     /// In points.
-    pub(crate) price: i64,
-    /// The stamp of the evidence, if there is one.
-    pub(crate) time: Option<i32>,
+    pub price: i64,
+    /// The stamp of the evidence, if there is one, as in a settlement.
+    pub time: Option<i32>,
 }

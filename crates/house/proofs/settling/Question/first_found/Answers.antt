@@ -1,5 +1,4 @@
-use Rattle.std.proofs.Common.{◌≡◌, ◌+◌, Some, sym, ap, ◌∙◌, arith, rules, w64, SFits}
-use Rattle.std.proofs.lemmas.Int.{to_z-of_z}
+use Rattle.std.proofs.Common.{Some, sym, ap, ◌∙◌, arith}
 use Rattle.rows.proofs.Table.{row_short}
 use Rattle.rows.specs.Chosen.{chosen}
 use Rattle.house.proofs.RowWalk.{found_here, found_later, found_not, found_nowhere}
