@@ -148,7 +148,7 @@ path_explained P near ed x [] = answered_explained P near ed x None
 path_explained P near ed x (y ∷ ys) = (path_answer P ed y ys, path_explained P near ed y ys, answered_explained P near ed x (Some (path_answer P ed y ys)))
 
 -- so many steps as the first number end at a series that has no reference, since each reference is earlier
-behind_explained : (all : ℕ → Series) → ((n : ℕ) → lawful_series n (all n) ≡ true) → (k : ℕ) (o : Option ℕ) → ((r : ℕ) → o ≡ Some r → r < k) → AreReferences all o (behind k all o)
+pub behind_explained : (all : ℕ → Series) → ((n : ℕ) → lawful_series n (all n) ≡ true) → (k : ℕ) (o : Option ℕ) → ((r : ℕ) → o ≡ Some r → r < k) → AreReferences all o (behind k all o)
 behind_explained all lawful k None under = refl
 behind_explained all lawful zero (Some r) under = let h = under r refl in absurd (omega arith)
 behind_explained all lawful (suc k) (Some r) under =

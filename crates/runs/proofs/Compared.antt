@@ -47,15 +47,15 @@ use Rattle.runs.proofs.ToldRuns.{told_from_new}
 -- ---- stations by the calls taken
 
 -- the station of a series on a day
-abbrev station_by_calls : Day → List Call → ℕ → Station
+abbrev pub station_by_calls : Day → List Call → ℕ → Station
 station_by_calls d xs n = record { number = n; series = series_after xs n; figures = figures_of d (entries xs) n }
 
-abbrev answer_by_calls : (ℕ → ℤ → Bool) → Edition → Day → List Call → ℕ → Answer
+abbrev pub answer_by_calls : (ℕ → ℤ → Bool) → Edition → Day → List Call → ℕ → Answer
 answer_by_calls P ed d xs n = path_answer P ed (station_by_calls d xs n) (map (station_by_calls d xs) (references (series_after xs) n))
 
 module _ (d : Day) (k : ℕ) (xs : List Call) (w : World) (told : Told d k xs w) where
   -- what the house would answer
-  answer_is_by_calls : (P : ℕ → ℤ → Bool) (ed : Edition) (n : ℕ) → answer_at P ed w.state w.book n ≡ answer_by_calls P ed d xs n
+  pub answer_is_by_calls : (P : ℕ → ℤ → Bool) (ed : Edition) (n : ℕ) → answer_at P ed w.state w.book n ≡ answer_by_calls P ed d xs n
   answer_is_by_calls P ed n = λ i.
       path_answer P ed (station_of n (told.roll.series n i) (told.book.records i))
       (map (λ r. station_of r (told.roll.series r i) (told.book.records i)) (references (λ r. told.roll.series r i) n))
