@@ -562,13 +562,10 @@ fn main() -> io::Result<()> {
         match line(&mut desk, whole) {
             Ok(Answer::Done) => output.write_all(b"done\n")?,
             Ok(Answer::Listed(n)) => writeln!(output, "listed {n}")?,
-            Ok(Answer::Price(n, Settled { price, step, place, time })) => {
-                write!(output, "price {n} {price} {} {place} ", char::from(step))?;
-                match time {
-                    Some(stamp) => writeln!(output, "{stamp}")?,
-                    None => output.write_all(b"-\n")?,
-                }
-            }
+            Ok(Answer::Price(n, Settled { price, step, place, time })) => match time {
+                Some(stamp) => writeln!(output, "price {n} {price} {} {place} {stamp}", char::from(step))?,
+                None => writeln!(output, "price {n} {price} {} {place} -", char::from(step))?,
+            },
             Err(Number(n)) => writeln!(output, "refused {n}")?,
             Err(NoPrice(origin)) => writeln!(output, "refused 10 {origin}")?,
             Err(NotRead(place)) => writeln!(output, "refused 11 {place}")?,
