@@ -210,6 +210,14 @@ fn nearest(tick: i64, numerator: i64, denominator: i64) -> i64 {
 
 // ---- the house
 
+#[derive(Clone, Copy)]
+struct Settled {
+    price: i64,
+    step: u8,
+    place: usize,
+    time: Option<i64>,
+}
+
 #[derive(Clone, Copy, PartialEq)]
 enum Phase {
     Listing,
@@ -377,7 +385,7 @@ impl House {
         Ok(())
     }
 
-    fn settle(&self, series: i64, morning: bool) -> Answered<(i64, u8, usize)> {
+    fn settle(&self, series: i64, morning: bool) -> Answered<Settled> {
         let open = self.phase == Phase::Closed || (morning && self.phase == Phase::Trading);
         if !open {
             return Err(Number(2));
@@ -386,10 +394,10 @@ impl House {
         self.answer(n, morning).map_err(NoPrice)
     }
 
-    fn answer(&self, n: usize, morning: bool) -> Result<(i64, u8, usize), u8> {
+    fn answer(&self, n: usize, morning: bool) -> Result<Settled, u8> {
         let series = &self.series[n];
-        if let Some((value, true)) = series.ruling {
-            return Ok((value, b'D', 0));
+        if let Some((price, true)) = series.ruling {
+            return Ok(Settled { price, step: b'D', place: 0, time: None });
         }
         let terms = &series.terms;
         let row = match (terms.family, morning) {
@@ -404,25 +412,25 @@ impl House {
             Some(r) if row.iter().any(|(s, _)| matches!(s, b'S' | b'P' | b'C')) => Some(self.answer(r, morning)),
             _ => None,
         };
-        let price = reference.and_then(|r| r.ok()).map(|(p, _, _)| p);
+        let before = reference.and_then(|r| r.ok());
         let tick = self.ticks[terms.ladder];
         for (place, (step, window)) in row.iter().enumerate() {
             let figures = &self.figures[n][window.saturating_sub(1)];
             let found = match step {
-                b'A' => figures.auction.map(|l| l.value),
-                b'L' => figures.trade.map(|l| l.value),
-                b'Q' => figures.quote.and_then(|l| Some(nearest(tick, l.value.0? + l.value.1?, 2))),
-                b'V' => (figures.lots != 0).then(|| nearest(tick, figures.money, figures.lots)),
-                b'T' => series.theory.map(|v| nearest(tick, v, 1)),
-                b'U' => series.theory.map(|v| up(tick, v)),
-                b'S' => price.and_then(|p| Some(p - figures.spread?.value)),
-                b'P' => price.and_then(|p| Some(p - terms.spread?)),
-                b'C' => price,
-                b'B' => terms.settlement,
-                _ => series.ruling.map(|(v, _)| v),
+                b'A' => figures.auction.map(|l| (l.value, Some(l.stamp))),
+                b'L' => figures.trade.map(|l| (l.value, Some(l.stamp))),
+                b'Q' => figures.quote.and_then(|l| Some((nearest(tick, l.value.0? + l.value.1?, 2), Some(l.stamp)))),
+                b'V' => figures.trade.map(|l| (nearest(tick, figures.money, figures.lots), Some(l.stamp))),
+                b'T' => series.theory.map(|v| (nearest(tick, v, 1), None)),
+                b'U' => series.theory.map(|v| (up(tick, v), None)),
+                b'S' => before.and_then(|b| figures.spread.map(|l| (b.price - l.value, Some(l.stamp)))),
+                b'P' => before.and_then(|b| terms.spread.map(|v| (b.price - v, None))),
+                b'C' => before.map(|b| (b.price, b.time)),
+                b'B' => terms.settlement.map(|v| (v, None)),
+                _ => series.ruling.map(|(v, _)| (v, None)),
             };
-            if let Some(found) = found {
-                return Ok((found, *step, place + 1));
+            if let Some((price, time)) = found {
+                return Ok(Settled { price, step: *step, place: place + 1, time });
             }
         }
         Err(match reference {
@@ -437,7 +445,7 @@ impl House {
 enum Answer {
     Done,
     Listed(usize),
-    Price(i64, (i64, u8, usize)),
+    Price(i64, Settled),
 }
 
 fn house(desk: &mut Option<House>) -> Answered<&mut House> {
@@ -554,7 +562,10 @@ fn main() -> io::Result<()> {
         match line(&mut desk, whole) {
             Ok(Answer::Done) => output.write_all(b"done\n")?,
             Ok(Answer::Listed(n)) => writeln!(output, "listed {n}")?,
-            Ok(Answer::Price(n, (price, step, place))) => writeln!(output, "price {n} {price} {} {place}", char::from(step))?,
+            Ok(Answer::Price(n, Settled { price, step, place, time })) => match time {
+                Some(stamp) => writeln!(output, "price {n} {price} {} {place} {stamp}", char::from(step))?,
+                None => writeln!(output, "price {n} {price} {} {place} -", char::from(step))?,
+            },
             Err(Number(n)) => writeln!(output, "refused {n}")?,
             Err(NoPrice(origin)) => writeln!(output, "refused 10 {origin}")?,
             Err(NotRead(place)) => writeln!(output, "refused 11 {place}")?,

@@ -16,7 +16,7 @@ HERE = os.path.dirname(os.path.abspath(__file__))
 sys.path.insert(0, HERE)
 from run import SETTLE, a_day, peak
 
-ANSWER = re.compile(rb"done|listed \d+|price -?\d+ -?\d+ [ALQVTUSPCBD] \d|refused \d+( \d+)?")
+ANSWER = re.compile(rb"done|listed \d+|price -?\d+ -?\d+ [ALQVTUSPCBD] \d (\d+|-)|refused \d+( \d+)?")
 
 
 def mutated(line, r):

@@ -103,49 +103,52 @@ class House:
             return QUARTER_END[family]
         return MORNING[family - 1]
 
-    def evidence(self, series, window, *kinds):
-        """The entries of these kinds, by stamp and then in the order taken."""
+    def evidence(self, series, window, letter):
+        """The entries in which a step looks, by stamp and then in the order taken."""
+        kinds = {"A": ["auction"], "L": ["trade", "auction"], "V": ["trade", "auction"], "Q": ["quote"], "S": ["spread"]}
+        if letter not in kinds:
+            return []
         first, last = self.windows[window - 1]
-        there = [e for e in self.taken if e[1] == series and first <= e[2] <= last and e[0] in kinds]
-        return [numbers for _, _, _, numbers in sorted(there, key=lambda e: e[2])]
+        there = [e for e in self.taken if e[1] == series and first <= e[2] <= last and e[0] in kinds[letter]]
+        return sorted(there, key=lambda e: e[2])
 
-    def find(self, series, letter, window, reference):
-        """What a step finds, given the reference's price."""
+    def find(self, series, letter, evidence, reference):
+        """The price that a step finds in its evidence, given the reference's price."""
         _, tick, _, settlement, spread, _, _ = self.listed[series]
-        last = lambda *kinds: (self.evidence(series, window, *kinds) or [None])[-1]
+        numbers = [numbers for _, _, _, numbers in evidence]
         nearest = lambda v: floor(Fraction(v) / tick + Fraction(1, 2)) * tick
         theory = self.theory.get(series)
+        if letter in "ALQVS" and not numbers:
+            return None
         if letter in "AL":
-            found = last("auction") if letter == "A" else last("trade", "auction")
-            return found and found[0]
+            return numbers[-1][0]
         if letter == "Q":
-            found = last("quote")
-            return nearest(Fraction(sum(found), 2)) if found and None not in found else None
+            return None if None in numbers[-1] else nearest(Fraction(sum(numbers[-1]), 2))
         if letter == "V":
-            trades = self.evidence(series, window, "trade", "auction")
-            lots = sum(n for _, n in trades)
-            return nearest(Fraction(sum(p * n for p, n in trades), lots)) if lots else None
+            return nearest(Fraction(sum(p * n for p, n in numbers), sum(n for _, n in numbers)))
         if letter == "T":
             return None if theory is None else nearest(theory)
         if letter == "U":
             return None if theory is None else -(-theory // tick) * tick
         if letter in "SP":
-            found = last("spread") if letter == "S" else [spread]
-            return None if reference is None or not found or found[0] is None else reference - found[0]
+            less = numbers[-1][0] if letter == "S" else spread
+            return None if reference is None or less is None else reference - less
         return {"C": reference, "B": settlement, "D": self.ruling.get(series, (None, False))[0]}[letter]
 
     def settled(self, series, edition):
-        """Price, letter and place; or the origin of the refusal."""
+        """Price, letter, place and time; or the origin of the refusal."""
         value, first = self.ruling.get(series, (None, False))
         if first:
-            return value, "D", 0
+            return value, "D", 0, "-"
         reference, row = self.listed[series][2], self.row(series, edition).split()
         before = None if reference is None else self.settled(reference, edition)
-        price = before[0] if isinstance(before, tuple) else None
+        price, *_, time = before if isinstance(before, tuple) else (None, "-")
         for place, step in enumerate(row, 1):
-            found = self.find(series, step[0], int(step[1:] or 0), price)
+            letter, window = step[0], int(step[1:] or 0)
+            evidence = self.evidence(series, window, letter)
+            found = self.find(series, letter, evidence, price)
             if found is not None:
-                return found, step[0], place
+                return found, letter, place, time if letter == "C" else evidence[-1][2] if evidence else "-"
         refers = any(step[0] in "SPC" for step in row)
         return before if refers and isinstance(before, int) else series
 
@@ -154,7 +157,7 @@ class House:
         demand(self.is_listed(series), 4)
         found = self.settled(series, edition)
         demand(isinstance(found, tuple), f"10 {found}")
-        return "price {} {} {}".format(*found)
+        return "price {} {} {} {}".format(*found)
 
 
 def told(call, *arguments):

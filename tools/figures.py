@@ -38,9 +38,9 @@ def figures(entries):
     trades = of("trade", "auction")
     text = ""
     for found in (last(trades), last(of("auction")), last(of("spread"))):
-        text += shown(found and found[2])
+        text += f" {found[2]}@{found[1]}" if found else " -"
     quote = last(of("quote"))
-    text += shown(quote[2]) + shown(quote[3]) if quote else " none"
+    text += f"{shown(quote[2])}{shown(quote[3])}@{quote[1]}" if quote else " none"
     return text + f" {sum(n[3] for _, n in trades)} {sum(n[2] * n[3] for _, n in trades)}"
 
 

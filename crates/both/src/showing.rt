@@ -34,7 +34,20 @@ impl fmt::Display for Replied {
     }
 }
 
-// What the question for a price was answered: the price, the letter of its step, and the step's place.
+// A stamp, or a minus where there is none.
+#[derive(Clone, Copy)]
+struct Time(Option<i32>);
+
+impl fmt::Display for Time {
+    fn fmt<W: fmt::Write>(&self, f: &mut fmt::Formatter<W>) -> fmt::Result {
+        match self.0 {
+            Some(stamp) => write!(f, "{stamp}"),
+            None => write!(f, "-"),
+        }
+    }
+}
+
+// What the question for a price was answered: the price, the letter of its step, the step's place, and the time.
 #[derive(Clone, Copy)]
 pub(crate) struct Shown(pub(crate) Result<Settlement, HouseFault>);
 
@@ -42,8 +55,13 @@ impl fmt::Display for Shown {
     fn fmt<W: fmt::Write>(&self, f: &mut fmt::Formatter<W>) -> fmt::Result {
         match self.0 {
             Ok(found) => {
-                let Settlement { price, step, place } = found;
-                write!(f, "price {price} {step} {place}")
+                let Settlement {
+                    price,
+                    step,
+                    place,
+                    time,
+                } = found;
+                write!(f, "price {price} {step} {place} {}", Time(time))
             }
             Err(fault) => write!(f, "{}", Refusal(fault)),
         }

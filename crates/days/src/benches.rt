@@ -1,4 +1,5 @@
 // The three that answer the lines of a day, held against each other.
+use crate::deals::Deals;
 use crate::tallies::Tally;
 use answers::faults::LineFault;
 use anyhow::{anyhow, ensure};
@@ -8,7 +9,7 @@ use book::entries::Entry;
 use book::lawful::LawfulDay;
 use desk::desks::Desk;
 use second::seconds::Second;
-use std::alloc::Global;
+use std::alloc::{AllocError, Global};
 use std::str;
 use tape::tapes::Tape;
 
@@ -66,6 +67,7 @@ pub(crate) struct Bench<'a> {
     on_tape: Desk,
     tape: Tape<'a>,
     second: Second,
+    deals: Deals,
 }
 
 impl<'a> Bench<'a> {
@@ -78,6 +80,7 @@ impl<'a> Bench<'a> {
             on_tape: Desk::new(),
             tape: Tape::new(LawfulDay::least(), slots),
             second: Second::new(alloc, capacity),
+            deals: Deals::new(alloc),
         }
     }
 
@@ -116,8 +119,19 @@ impl<'a> Bench<'a> {
                 tally.add_short_buffer();
             }
             let answer = self.answer(rt, line)?;
-            tally.add_answer(answer.as_str());
+            self.count(line, answer.as_str(), tally)?;
         }
+        Ok(())
+    }
+
+    fn count(&mut self, line: &[u8], answer: &str, tally: &mut Tally) -> Result<(), AllocError> {
+        if answer == "done" {
+            self.deals.keep(line)?;
+        }
+        if let Some(choice) = self.deals.choice_of(answer)? {
+            tally.add_choice(choice);
+        }
+        tally.add_answer(answer);
         Ok(())
     }
 }

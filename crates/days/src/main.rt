@@ -5,6 +5,7 @@
 mod benches;
 mod chance;
 mod damage;
+mod deals;
 mod plans;
 mod stamps;
 mod tallies;

@@ -1,9 +1,13 @@
 // How many answers of each kind there were.
+use crate::deals::Choice;
 use anyhow::ensure;
 use std::alloc::{AllocError, Global};
 
-// The letters of the steps.
-const STEPS: [&str; 11] = ["A", "L", "Q", "V", "T", "U", "S", "P", "C", "B", "D"];
+// The letters of the steps whose price has a time, and of those whose price has none. A copy has that of what it copies,
+// which may be none.
+const WITH_TIME: [&str; 6] = ["A", "L", "Q", "V", "S", "C"];
+
+const WITHOUT_TIME: [&str; 6] = ["T", "U", "P", "B", "D", "C"];
 
 // The refusals that a line may be answered with. 12 has no answer.
 const REFUSALS: [&str; 12] = [
@@ -23,9 +27,14 @@ pub(crate) struct Tally {
     short: u64,
     done: u64,
     listed: u64,
+    with_time: Vec<Count>,
+    without_time: Vec<Count>,
     first_marks: u64,
-    steps: Vec<Count>,
+    equal_stamps: u64,
+    windows: u64,
     refusals: Vec<Count>,
+    // Answers that the rules do not have.
+    unknown: u64,
 }
 
 fn add_one(number: &mut u64) {
@@ -42,20 +51,28 @@ fn counts(alloc: Global, names: &[&'static str]) -> Result<Vec<Count>, AllocErro
         .collect(alloc)
 }
 
-fn add_one_of(counts: &mut Vec<Count>, name: &str) {
-    for count in counts.iter_mut() {
-        if count.name == name {
+// Whether there is a count of that name.
+fn add_one_of(counts: &mut Vec<Count>, name: &str) -> bool {
+    match counts.iter_mut().find(|count| count.name == name) {
+        Some(count) => {
             add_one(&mut count.times);
+            true
         }
+        None => false,
     }
 }
 
-fn show(rt: &impl Print, what: &str, counts: &[Count]) -> anyhow::Result<()> {
+// Fails if it was never met.
+fn show(rt: &impl Print, what: &str, name: &str, times: u64) -> anyhow::Result<()> {
+    println!(rt; "{what} {name}: {times}")?;
+    ensure!(times > 0, "{what} {name} was never met");
+    Ok(())
+}
+
+// Fails if one of them was never met.
+fn show_all(rt: &impl Print, what: &str, counts: &[Count]) -> anyhow::Result<()> {
     for count in counts {
-        let name = count.name;
-        let times = count.times;
-        println!(rt; "{what} {name}: {times}")?;
-        ensure!(times > 0, "{what} {name} was never met");
+        show(rt, what, count.name, count.times)?;
     }
     Ok(())
 }
@@ -68,9 +85,13 @@ impl Tally {
             short: 0,
             done: 0,
             listed: 0,
+            with_time: counts(alloc, &WITH_TIME)?,
+            without_time: counts(alloc, &WITHOUT_TIME)?,
             first_marks: 0,
-            steps: counts(alloc, &STEPS)?,
+            equal_stamps: 0,
+            windows: 0,
             refusals: counts(alloc, &REFUSALS)?,
+            unknown: 0,
         })
     }
 
@@ -82,39 +103,80 @@ impl Tally {
         add_one(&mut self.short);
     }
 
-    // An answer, told by its first word, and the step or the refusal that it names.
-    pub(crate) fn add_answer(&mut self, answer: &str) {
-        add_one(&mut self.lines);
-        let mut words = answer.split(' ');
-        match words.next() {
-            Some("done") => add_one(&mut self.done),
-            Some("listed") => add_one(&mut self.listed),
-            Some("price") => {
-                let step = words.nth(2).unwrap_or("");
-                add_one_of(&mut self.steps, step);
-                if words.next() == Some("0") {
-                    add_one(&mut self.first_marks);
-                }
-            }
-            Some("refused") => add_one_of(&mut self.refusals, words.next().unwrap_or("")),
-            _ => {}
+    pub(crate) fn add_choice(&mut self, choice: Choice) {
+        match choice {
+            Choice::EqualStamps => add_one(&mut self.equal_stamps),
+            Choice::Window => add_one(&mut self.windows),
         }
     }
 
-    // Fails if a step or a refusal was never met.
+    // An answer, told by its first word, and what it names: the step, its place and the time of a price, or a refusal.
+    pub(crate) fn add_answer(&mut self, answer: &str) {
+        add_one(&mut self.lines);
+        let mut words = answer.split(' ');
+        let known = match words.next() {
+            Some("done") => {
+                add_one(&mut self.done);
+                true
+            }
+            Some("listed") => {
+                add_one(&mut self.listed);
+                true
+            }
+            Some("price") => {
+                let step = words.nth(2).unwrap_or("");
+                let place = words.next().unwrap_or("");
+                self.add_price(step, place, words.next().unwrap_or(""))
+            }
+            Some("refused") => add_one_of(&mut self.refusals, words.next().unwrap_or("")),
+            _ => false,
+        };
+        if !known {
+            add_one(&mut self.unknown);
+        }
+    }
+
+    // Whether there is a price by that step with a time, or with none.
+    fn add_price(&mut self, step: &str, place: &str, time: &str) -> bool {
+        if place == "0" {
+            add_one(&mut self.first_marks);
+        }
+        if time == "-" {
+            add_one_of(&mut self.without_time, step)
+        } else {
+            add_one_of(&mut self.with_time, step)
+        }
+    }
+
+    // Fails if a step, a refusal or a choice was never met.
     pub(crate) fn print(&self, rt: &impl Print) -> anyhow::Result<()> {
         println!(rt; "days: {}", self.days)?;
         println!(rt; "lines: {}", self.lines)?;
-        println!(rt;
-            "lines with a short buffer first, refused 12: {}",
-            self.short
+        show(
+            rt,
+            "lines with a short buffer first,",
+            "refused 12",
+            self.short,
         )?;
         println!(rt; "done: {}", self.done)?;
         println!(rt; "listed: {}", self.listed)?;
-        show(rt, "price by", self.steps.as_slice())?;
-        println!(rt; "price by D at place 0: {}", self.first_marks)?;
-        show(rt, "refused", self.refusals.as_slice())?;
-        ensure!(self.short > 0, "refused 12 was never met");
+        show_all(rt, "price with a time by", self.with_time.as_slice())?;
+        show_all(rt, "price without a time by", self.without_time.as_slice())?;
+        show(rt, "price by D", "at place 0", self.first_marks)?;
+        show(
+            rt,
+            "price by L",
+            "of two trades of one stamp",
+            self.equal_stamps,
+        )?;
+        show(
+            rt,
+            "price by V",
+            "with a later trade outside its window",
+            self.windows,
+        )?;
+        show_all(rt, "refused", self.refusals.as_slice())?;
+        ensure!(self.unknown == 0, "an answer is none of the rules");
         Ok(())
     }
 }

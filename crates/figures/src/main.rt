@@ -12,7 +12,7 @@ use board::boards::Board;
 use book::books::Book;
 use book::days::Day;
 use book::entries::{Entry, SERIES};
-use book::figures::Values;
+use book::figures::Figures;
 use book::lawful::LawfulDay;
 use book::takings::take_both;
 use tape::tapes::{BLANK, Tape};
@@ -54,7 +54,7 @@ fn compare<A: Book, B: Book>(
     let a = one.figures(series, window);
     let b = other.figures(series, window);
     let same = a == b;
-    if a != Values::default() || !same {
+    if a != Figures::default() || !same {
         println!(rt;
             "series {series} window {window} tape {} board {} {}",
             ShownFigures(a),

@@ -1,28 +1,43 @@
 // Figures as they are printed.
-use book::figures::{Sides, Values};
+use book::figures::{Figures, Last, Sides};
 use std::fmt;
 
-// A value, or a minus where there is none.
+// A side of a quote, or a minus where there is none.
 #[derive(Clone, Copy)]
-struct Shown(Option<i32>);
+struct Side(Option<i32>);
 
-impl fmt::Display for Shown {
+impl fmt::Display for Side {
     fn fmt<W: fmt::Write>(&self, f: &mut fmt::Formatter<W>) -> fmt::Result {
         match self.0 {
-            Some(value) => write!(f, "{value}"),
+            Some(price) => write!(f, "{price}"),
             None => write!(f, "-"),
         }
     }
 }
 
-// Bid and ask of the last quote, if there is one.
+// The last trade, auction or spread with its stamp, or a minus where there is none.
 #[derive(Clone, Copy)]
-struct LastQuote(Option<Sides>);
+struct LastValue(Option<Last<i32>>);
+
+impl fmt::Display for LastValue {
+    fn fmt<W: fmt::Write>(&self, f: &mut fmt::Formatter<W>) -> fmt::Result {
+        match self.0 {
+            Some(Last { stamp, value }) => write!(f, "{value}@{stamp}"),
+            None => write!(f, "-"),
+        }
+    }
+}
+
+// Bid and ask of the last quote with its stamp, if there is one.
+#[derive(Clone, Copy)]
+struct LastQuote(Option<Last<Sides>>);
 
 impl fmt::Display for LastQuote {
     fn fmt<W: fmt::Write>(&self, f: &mut fmt::Formatter<W>) -> fmt::Result {
         match self.0 {
-            Some(sides) => write!(f, "{} {}", Shown(sides.bid), Shown(sides.ask)),
+            Some(Last { stamp, value }) => {
+                write!(f, "{} {}@{stamp}", Side(value.bid), Side(value.ask))
+            }
             None => write!(f, "none"),
         }
     }
@@ -30,11 +45,11 @@ impl fmt::Display for LastQuote {
 
 // The last trade, auction, spread and quote, the lots and the money.
 #[derive(Clone, Copy)]
-pub(crate) struct ShownFigures(pub(crate) Values);
+pub(crate) struct ShownFigures(pub(crate) Figures);
 
 impl fmt::Display for ShownFigures {
     fn fmt<W: fmt::Write>(&self, f: &mut fmt::Formatter<W>) -> fmt::Result {
-        let Values {
+        let Figures {
             trade,
             auction,
             spread,
@@ -45,9 +60,9 @@ impl fmt::Display for ShownFigures {
         write!(
             f,
             "{} {} {} {} {lots} {money}",
-            Shown(trade),
-            Shown(auction),
-            Shown(spread),
+            LastValue(trade),
+            LastValue(auction),
+            LastValue(spread),
             LastQuote(quote)
         )
     }

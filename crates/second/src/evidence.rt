@@ -19,9 +19,30 @@ pub(crate) enum Kind {
 
 impl Kind {
     // The deal of what counts as a trade: an auction does, a leg does not.
-    fn traded(self) -> Option<Deal> {
+    pub(crate) fn traded(self) -> Option<Deal> {
         match self {
             Kind::Trade(deal) | Kind::Auction(deal) => Some(deal),
+            _ => None,
+        }
+    }
+
+    pub(crate) fn difference(self) -> Option<i64> {
+        match self {
+            Kind::Spread { difference } => Some(difference),
+            _ => None,
+        }
+    }
+
+    // The middle of a quote that has both sides.
+    pub(crate) fn middle(self) -> Option<Fraction> {
+        match self {
+            Kind::Quote {
+                bid: Some(bid),
+                ask: Some(ask),
+            } => Some(Fraction {
+                over: i128::from(bid) + i128::from(ask),
+                under: 2,
+            }),
             _ => None,
         }
     }
@@ -92,51 +113,29 @@ impl Evidence<'_> {
         entry.series == self.series && self.record.has(self.window, entry.stamp)
     }
 
-    // The value of the last of those entries that has one: that of the largest stamp, of equal stamps the later one.
-    fn last<T: Copy, F: Fn(Kind) -> Option<T>>(&self, value_of: F) -> Option<T>
-        requires { F.IsAlwaysCallable value_of }
+    // The last of those entries that counts: that of the largest stamp, of equal stamps the later one.
+    fn last<F: Fn(Kind) -> bool>(&self, counts: F) -> Option<Entry>
+        requires { F.IsAlwaysCallable counts }
     {
-        let mut last = None;
+        let mut last: Option<Entry> = None;
         for entry in self.entries.iter().filter(|entry| self.has(entry)) {
-            if let Some(value) = value_of(entry.kind) {
+            if counts(entry.kind) {
                 last = match last {
-                    Some((stamp, _)) if entry.stamp < stamp => last,
-                    _ => Some((entry.stamp, value)),
+                    Some(later) if entry.stamp < later.stamp => last,
+                    _ => Some(*entry),
                 };
             }
         }
-        last.map(|(_, value)| value)
+        last
     }
 
-    pub(crate) fn last_auction(&self) -> Option<i64> {
-        self.last(|kind| match kind {
-            Kind::Auction(deal) => Some(deal.price),
-            _ => None,
-        })
-    }
-
-    pub(crate) fn last_trade(&self) -> Option<i64> {
-        self.last(|kind| kind.traded().map(|deal| deal.price))
-    }
-
-    pub(crate) fn last_spread(&self) -> Option<i64> {
-        self.last(|kind| match kind {
-            Kind::Spread { difference } => Some(difference),
-            _ => None,
-        })
-    }
-
-    // The middle of the last quote, if that has both sides.
-    pub(crate) fn middle(&self) -> Option<Fraction> {
-        let quote = self.last(|kind| match kind {
-            Kind::Quote { bid, ask } => Some((bid, ask)),
-            _ => None,
-        });
-        match quote {
-            Some((Some(bid), Some(ask))) => Some(Fraction {
-                over: i128::from(bid) + i128::from(ask),
-                under: 2,
-            }),
+    // The entry on which a step rests, if it looks at entries. An average rests on the last of the trades that are in it.
+    pub(crate) fn entry_of(&self, letter: char) -> Option<Entry> {
+        match letter {
+            'A' => self.last(|kind| matches!(kind, Kind::Auction(_))),
+            'L' | 'V' => self.last(|kind| kind.traded().is_some()),
+            'Q' => self.last(|kind| matches!(kind, Kind::Quote { .. })),
+            'S' => self.last(|kind| matches!(kind, Kind::Spread { .. })),
             _ => None,
         }
     }

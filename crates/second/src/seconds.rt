@@ -63,7 +63,11 @@ impl fmt::Display for Reply {
                 let price = settlement.price;
                 let step = settlement.step;
                 let place = settlement.place;
-                write!(f, "price {series} {price} {step} {place}")
+                write!(f, "price {series} {price} {step} {place} ")?;
+                match settlement.time {
+                    Some(stamp) => write!(f, "{stamp}"),
+                    None => write!(f, "-"),
+                }
             }
         }
     }

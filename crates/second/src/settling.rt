@@ -10,6 +10,8 @@ pub(crate) struct Price {
     pub(crate) price: i64,
     pub(crate) step: char,
     pub(crate) place: usize,
+    // The stamp of the entry on which the price rests, of a copy that of the reference's price; none where there is no entry.
+    pub(crate) time: Option<i64>,
 }
 
 // A price, or the origin of the refusal.
@@ -60,6 +62,7 @@ impl Case<'_> {
                 price: ruling.value,
                 step: 'D',
                 place: 0,
+                time: None,
             }),
             _ => self.by_row(),
         }
@@ -75,12 +78,8 @@ impl Case<'_> {
             terms.quarter_end,
         );
         for (place, step) in (1..=6).zip(row.split(' ')) {
-            if let Some((letter, price)) = self.found(step) {
-                return Ok(Price {
-                    price,
-                    step: letter,
-                    place,
-                });
+            if let Some(found) = self.found(place, step) {
+                return Ok(found);
             }
         }
         Err(self.origin(row))
@@ -94,25 +93,35 @@ impl Case<'_> {
         }
     }
 
-    // What a step finds, with its letter. The number after the letter is its window.
-    fn found(&self, step: &str) -> Option<(char, i64)> {
+    // What the step at a place finds. The number after its letter is its window.
+    fn found(&self, place: usize, step: &str) -> Option<Price> {
         let letter = step.chars().next()?;
         let window = step.get(1..)?.parse::<u8>().unwrap_or(0);
-        let price = self.price_by(letter, window)?;
-        Some((letter, price))
+        let evidence = self.evidence(window)?;
+        let entry = evidence.entry_of(letter);
+        let price = self.price_by(letter, evidence, entry)?;
+        let time = match letter {
+            'C' => self.reference?.ok()?.time,
+            _ => entry.map(|entry| entry.stamp),
+        };
+        Some(Price {
+            price,
+            step: letter,
+            place,
+            time,
+        })
     }
 
-    fn price_by(&self, letter: char, window: u8) -> Option<i64> {
-        let evidence = self.evidence(window)?;
+    // The price that a step finds, given the entry on which it rests.
+    fn price_by(&self, letter: char, evidence: Evidence<'_>, entry: Option<Entry>) -> Option<i64> {
         let tick = self.series.tick;
         match letter {
-            'A' => evidence.last_auction(),
-            'L' => evidence.last_trade(),
-            'Q' => evidence.middle()?.nearest(tick),
+            'A' | 'L' => Some(entry?.kind.traded()?.price),
+            'Q' => entry?.kind.middle()?.nearest(tick),
             'V' => evidence.average().nearest(tick),
             'T' => Fraction::whole(self.series.theory?).nearest(tick),
             'U' => Fraction::whole(self.series.theory?).above(tick),
-            'S' => self.following(evidence.last_spread()?),
+            'S' => self.following(entry?.kind.difference()?),
             'P' => self.following(self.series.terms.spread?),
             'C' => self.following(0),
             'B' => self.series.terms.previous,
