@@ -1,10 +1,11 @@
 -- Bytes added to a buffer, one piece behind the other.
-use Rattle.std.proofs.Common.{◌≡◌, ℕ, ◌+◌, ◌-◌, ◌^◌, ◌<◌, ◌≤◌, List, [], ◌∷◌, ◌++◌, length, take, drop, ℤ, Some, None, Ok, Err, Result, codes, decimal, w64, SFits, sym, refl, ap, ◌∙◌, arith, length-append}
+use Rattle.std.proofs.Common.{◌≡◌, ℕ, ◌+◌, ◌-◌, ◌^◌, ◌<◌, ◌≤◌, List, [], ◌∷◌, ◌++◌, length, take, drop, ℤ, Some, None, Ok, Err, Result, codes, decimal, sym, refl, ap, ◌∙◌, arith, length-append}
 use Rattle.std.proofs.lemmas.List.{append_assoc, append-nil, drop-drop, take-append-drop}
 use Rattle.std.proofs.lemmas.Slice.{take-put_mid, drop-put_mid}
 use borrow.Rule.Slice.PartMut.{put_mid}
 use Rattle.std.specs.Fmt.{signed_decimal}
 use Rattle.house.specs.declared.answers.Settlement.{Settlement}
+use Rattle.lines.specs.Values.{signed_if}
 use Rattle.rows.specs.Steps.{letter}
 use Rattle.answers.specs.Faults.{line_detail, line_number}
 use Rattle.answers.specs.Texts.{Typed, answer_text}
@@ -74,15 +75,16 @@ begins_listed old mid new at end n a b h =
     begins (Ok (Listed n)) old new end h
     (added_both old (codes "listed") mid _ new 0 at end a (added_last mid (32 ∷ decimal n) new at end b))
 
-pub begins_price : (old m1 m2 m3 m4 new : List ℕ) (a1 a2 a3 a4 end l : ℕ) (z : ℤ) (s : Settlement) → PutAt old 0 (codes "price") m1 a1 → PutAt m1 a1 (32 ∷ signed_decimal z) m2 a2 → PutAt m2 a2 (32 ∷ signed_decimal s.price) m3 a3 → PutAt m3 a3 (32 ∷ l ∷ []) m4 a4 → l ≡ letter s.step → PutAt m4 a4 (32 ∷ decimal s.place) new end → SFits w64 z → SFits w64 s.price → s.place < 2 ^ 8 → Begins old (answer_text (Ok (Settled z s))) new end
-begins_price old m1 m2 m3 m4 new a1 a2 a3 a4 end l z s a b c d e f g h i =
+pub begins_price : (old m1 m2 m3 m4 m5 new : List ℕ) (a1 a2 a3 a4 a5 end l : ℕ) (z : ℤ) (s : Settlement) → PutAt old 0 (codes "price") m1 a1 → PutAt m1 a1 (32 ∷ signed_decimal z) m2 a2 → PutAt m2 a2 (32 ∷ signed_decimal s.price) m3 a3 → PutAt m3 a3 (32 ∷ l ∷ []) m4 a4 → l ≡ letter s.step → PutAt m4 a4 (32 ∷ decimal s.place) m5 a5 → PutAt m5 a5 (32 ∷ signed_if s.time) new end → Typed (Ok (Settled z s)) → Begins old (answer_text (Ok (Settled z s))) new end
+begins_price old m1 m2 m3 m4 m5 new a1 a2 a3 a4 a5 end l z s a b c d e f g t =
     let step : PutAt m3 a3 (32 ∷ letter s.step ∷ []) m4 a4 = rw (sym e) d in
-    begins (Ok (Settled z s)) old new end (g, h, i)
+    begins (Ok (Settled z s)) old new end t
     (added_both old (codes "price") m1 _ new 0 a1 end a
     (added_both m1 (32 ∷ signed_decimal z) m2 _ new a1 a2 end b
     (added_both m2 (32 ∷ signed_decimal s.price) m3 _ new a2 a3 end c
     (added_both m3 (32 ∷ letter s.step ∷ []) m4 _ new a3 a4 end step
-    (added_last m4 (32 ∷ decimal s.place) new a4 end f)))))
+    (added_both m4 (32 ∷ decimal s.place) m5 _ new a4 a5 end f
+    (added_last m5 (32 ∷ signed_if s.time) new a5 end g))))))
 
 pub begins_refused : (old mid new : List ℕ) (at end n : ℕ) (f : LineFault) → PutAt old 0 (codes "refused") mid at → PutAt mid at (32 ∷ decimal n) new end → n ≡ line_number f → None ≡ line_detail f → Begins old (answer_text (Err f)) new end
 begins_refused old mid new at end n f a b e d =

@@ -1,9 +1,10 @@
 -- The answers as they are printed.
 use Rattle.std.specs.Prelude.{◌≡◌, ℕ, ◌^◌, ◌<◌, ◌≤◌, ◌≢◌, List, [], ◌∷◌, length, Ok, Err, Some, None, codes, decimal, Option, Result, All, IfSome, FitsSigned}
-use Rattle.std.specs.Int.{w64}
+use Rattle.std.specs.Int.{w32, w64}
 use Rattle.std.specs.Fmt.{signed_decimal}
 use Rattle.rows.specs.Steps.{letter}
 use Rattle.lines.specs.Fields.{spaced}
+use Rattle.lines.specs.Values.{signed_if}
 use Rattle.calls.specs.declared.call.Reply.{Reply}
 use Rattle.calls.specs.declared.call.Reply.TheVariants.{Done, Listed, Settled}
 use Rattle.answers.specs.declared.faults.LineFault.{LineFault}
@@ -14,12 +15,18 @@ abbrev pub detail_fields : Option ℕ → List (List ℕ)
 detail_fields None = []
 detail_fields (Some n) = decimal n ∷ []
 
--- the origin stands after 10, and the place in the line after 11
+-- the stamp of a price stands last, a minus alone where there is none; the origin stands after 10, and the place in the line after 11
 abbrev pub answer_fields : Result Reply LineFault → List (List ℕ)
 answer_fields (Ok Done) = codes "done" ∷ []
 answer_fields (Ok (Listed n)) = codes "listed" ∷ decimal n ∷ []
 answer_fields (Ok (Settled series s)) =
-    codes "price" ∷ signed_decimal series ∷ signed_decimal s.price ∷ (letter s.step ∷ []) ∷ decimal s.place ∷ []
+    codes "price"
+    ∷ signed_decimal series
+    ∷ signed_decimal s.price
+    ∷ (letter s.step ∷ [])
+    ∷ decimal s.place
+    ∷ signed_if s.time
+    ∷ []
 answer_fields (Err f) = codes "refused" ∷ decimal (line_number f) ∷ detail_fields (line_detail f)
 
 -- with one space between two fields
@@ -32,7 +39,7 @@ answer_text r = spaced (answer_fields r)
 abbrev pub Typed : Result Reply LineFault → Type 0
 Typed (Ok Done) = Unit {0}
 Typed (Ok (Listed n)) = n < 2 ^ 8
-Typed (Ok (Settled series s)) = FitsSigned w64 series × FitsSigned w64 s.price × (s.place < 2 ^ 8)
+Typed (Ok (Settled series s)) = FitsSigned w64 series × FitsSigned w64 s.price × (s.place < 2 ^ 8) × IfSome s.time (FitsSigned w32)
 Typed (Err f) = IfSome (line_detail f) (λ n. n < 2 ^ 8)
 
 -- no answer is longer than n bytes

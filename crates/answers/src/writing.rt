@@ -4,6 +4,7 @@
 ghost use Rattle.std.specs.Prelude.{◌≡◌, ◌+◌, ◌≤◌, ◌∷◌, length, IfOk, OnOk};
 ghost use Rattle.answers.specs.Texts.{answer_text, AllOneLine, Longest, OneLine, TextsApart};
 ghost use Rattle.answers.specs.Written.{PutAt, Begins, Replied};
+ghost use Rattle.lines.specs.Values.{signed_if};
 
 use crate::faults::LineFault;
 use calls::call::Reply;
@@ -53,6 +54,17 @@ fn put_number<I: Integer>(out: &mut [u8], at: usize, number: I) -> usize
     put_field(out, at, buffer.format(number).as_bytes())
 }
 
+// The stamp of the evidence that decided, or a minus alone where there is none.
+fn put_time(out: &mut [u8], at: usize, time: Option<i32>) -> usize
+    requires { at + 12 ≤ length out.old }
+    ensures { PutAt out.old at (32 ∷ signed_if time) out.new result }
+{
+    match time {
+        Some(stamp) => put_number(out, at, stamp),
+        None => put_field(out, at, b"-"),
+    }
+}
+
 #[tactic(auto, using(crate::proofs::Adding::begins_done))]
 fn put_done(out: &mut [u8]) -> usize
     requires { 96 ≤ length out.old }
@@ -77,7 +89,8 @@ fn put_price(out: &mut [u8], series: i64, settlement: Settlement) -> usize
     let at = put_number(out, at, series);
     let at = put_number(out, at, settlement.price);
     let at = put_field(out, at, &[settlement.step.letter()]);
-    put_number(out, at, settlement.place)
+    let at = put_number(out, at, settlement.place);
+    put_time(out, at, settlement.time)
 }
 
 fn put_refused(out: &mut [u8], fault: LineFault) -> usize

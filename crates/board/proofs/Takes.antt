@@ -3,7 +3,7 @@ use Rattle.std.proofs.Common.{◌≡◌, ℕ, ◌+◌, ◌≤◌, true, cond, Li
 use Rattle.std.proofs.lemmas.Bool.{and_from, cond_both}
 use Rattle.book.specs.Bounds.{bounded}
 use Rattle.book.specs.Entries.{kind_lawful}
-use Rattle.book.specs.Figures.{entered_if, stamp_small, values}
+use Rattle.book.specs.Figures.{entered_if, stamp_small}
 use Rattle.book.specs.Ledgers.{Lawful, take_after, entered, with_taken, in_range, admission}
 use Rattle.book.specs.Windows.{edges}
 use Rattle.book.specs.declared.days.Day.{Day}
@@ -15,13 +15,13 @@ use Rattle.book.proofs.Taking.{Admitted, admitted, same_reply}
 use Rattle.board.specs.Cells.{cell, tabled}
 
 pub record Takes (d : Day) (k n : ℕ) (old new : List Figures) (e : Entry) : Type 0 where
-  pub bounds : (s w : ℕ) → bounded (n + 1) (values (cell new s w)) ≡ true
+  pub bounds : (s w : ℕ) → bounded (n + 1) (cell new s w) ≡ true
   pub after : tabled d k (n + 1) new ≡ take_after (tabled d k n old) e
 
 -- the day, count and capacity may have been come by in any way
 pub takes : (d d' : Day) (k n k' n' : ℕ) (old new : List Figures) (e : Entry) → Lawful (tabled d k n old) → d' ≡ d → n' ≡ n → k' ≡ k → Ok tt ≡ admission d' n' k' e → ((s w : ℕ) → cell new s w ≡ cond (in_range s w) (entered_if s (edges d' w) (cell old s w) e) (cell old s w)) → Takes d k n old new e
 takes d d' k n k' n' old new e lawful day count capacity ok entered_everywhere = record {
-  bounds = λ s w. ap (λ f. bounded (n + 1) (values f)) (all s w) ∙ bounded_entered n s (edges d w) (cell old s w) e (allowed_kind d e a.lawful) (lawful.bounds s w);
+  bounds = λ s w. ap (λ f. bounded (n + 1) f) (all s w) ∙ bounded_entered n s (edges d w) (cell old s w) e (allowed_kind d e a.lawful) (lawful.bounds s w);
   after = taken ∙ sym a.taken;
 }
   where

@@ -3,7 +3,7 @@ use Rattle.std.specs.Prelude.{◌≡◌, ℕ, ◌≤◌, true, false, List, slic
 use Rattle.std.proofs.lemmas.Bool.{cond-false}
 use Rattle.book.specs.Bounds.{bounded}
 use Rattle.book.specs.Days.{is_lawful_day}
-use Rattle.book.specs.Figures.{empty, values}
+use Rattle.book.specs.Figures.{empty}
 use Rattle.book.specs.Ledgers.{Lawful, in_range}
 use Rattle.book.specs.declared.days.Day.{Day}
 use Rattle.book.specs.declared.figures.Figures.{Figures}
@@ -13,7 +13,7 @@ cell_outside : (cells : List Figures) (s w : ℕ) → in_range s w ≡ false →
 cell_outside cells s w h = cond-false (in_range s w) (slice_index_or cells (cell_index s w) empty) empty h
 
 pub table_is_lawful : (d : Day) (k n : ℕ) (cells : List Figures) → is_lawful_day d ≡ true → k ≤ 30000 → n ≤ k
-    → ((s w : ℕ) → bounded n (values (cell cells s w)) ≡ true) → (n ≡ 0 → (s w : ℕ) → cell cells s w ≡ empty)
+    → ((s w : ℕ) → bounded n (cell cells s w) ≡ true) → (n ≡ 0 → (s w : ℕ) → cell cells s w ≡ empty)
     → Lawful (tabled d k n cells)
 table_is_lawful d k n cells lawful_day most room bounds none_taken = record {
   lawful_day = lawful_day;

@@ -2,7 +2,7 @@
 ghost use Rattle.std.specs.Prelude.{◌≡◌, ℕ, ◌≤◌, min, true};
 ghost use Rattle.book.specs.Bounds.{bounded};
 ghost use Rattle.book.specs.Days.{is_lawful_day};
-ghost use Rattle.book.specs.Figures.{empty, values};
+ghost use Rattle.book.specs.Figures.{empty};
 ghost use Rattle.book.specs.Ledgers.{fresh};
 ghost use Rattle.board.specs.Cells.{cell, tabled};
 ghost use Rattle.board.specs.LawfulTable.{table_is_lawful};
@@ -12,7 +12,7 @@ use book::books::{Book, MOST, Reusable, admit};
 use book::days::Day;
 use book::entries::Entry;
 use book::faults::BookFault;
-use book::figures::Values;
+use book::figures::Figures;
 use book::lawful::LawfulDay;
 
 /// A book that keeps running figures of every series and window, and takes the same memory whatever comes.
@@ -25,7 +25,7 @@ pub struct Board {
     ghost lawful_day: { is_lawful_day day ≡ true },
     ghost most: { capacity ≤ 30000 },
     ghost room: { count ≤ capacity },
-    ghost bounds: { (s w : ℕ) → bounded count (values (cell table.cells s w)) ≡ true },
+    ghost bounds: { (s w : ℕ) → bounded count (cell table.cells s w) ≡ true },
     ghost none_taken: { count ≡ 0 → (s w : ℕ) → cell table.cells s w ≡ empty },
 }
 
@@ -71,8 +71,8 @@ impl Book for Board {
         Ok(())
     }
 
-    fn figures(&self, series: u8, window: u8) -> Values {
-        self.table.at(series, window).values()
+    fn figures(&self, series: u8, window: u8) -> Figures {
+        self.table.at(series, window)
     }
 
     fn day(&self) -> Day {

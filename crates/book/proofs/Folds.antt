@@ -5,7 +5,7 @@ use Rattle.std.proofs.lemmas.List.Sums.{fold_push}
 use Rattle.std.proofs.lemmas.Bool.{and_parts, and_from}
 use Rattle.book.specs.Bounds.{bounded}
 use Rattle.book.specs.Entries.{allowed}
-use Rattle.book.specs.Figures.{empty, entered_if, entered_in, sound, values}
+use Rattle.book.specs.Figures.{empty, entered_if, entered_in, sound}
 use Rattle.book.specs.Growth.{bounded_entered, bounded_empty, enters, roomy_from}
 use Rattle.book.specs.LawfulRecords.{sound_parts}
 use Rattle.book.specs.Ledgers.{entered, take_after, take_answer, with_taken}
@@ -26,7 +26,7 @@ every_push p (y ∷ ys) x e h =
 -- ---- folds over sound entries
 
 -- few enough sound entries all enter: the sums never lack room
-same_from : (n s : ℕ) (x : ℤ × ℤ) (f : Figures) (es : List Entry) → n + length es ≤ 30000 → every sound es ≡ true → bounded n (values f) ≡ true → fold (entered_if s x) f es ≡ fold (entered_in s x) f es
+same_from : (n s : ℕ) (x : ℤ × ℤ) (f : Figures) (es : List Entry) → n + length es ≤ 30000 → every sound es ≡ true → bounded n f ≡ true → fold (entered_if s x) f es ≡ fold (entered_in s x) f es
 same_from n s x f [] few h b = refl
 same_from n s x f (e ∷ es) few h b =
     let both = and_parts (sound e) (every sound es) h in

@@ -8,7 +8,6 @@ use Rattle.book.specs.declared.entries.Kind.TheVariants.{Trade, Auction, Leg, Sp
 use Rattle.book.specs.declared.figures.Last.{Last}
 use Rattle.book.specs.declared.figures.Sides.{Sides}
 use Rattle.book.specs.declared.figures.Figures.{Figures}
-use Rattle.book.specs.declared.figures.Values.{Values}
 
 -- nothing is last, and the sums are 0
 abbrev pub empty : Figures
@@ -79,22 +78,6 @@ concerns s x e = is_series s e.series && holds x e.stamp
 
 abbrev pub entered_in : ℕ → ℤ × ℤ → Figures → Entry → Figures
 entered_in s x f e = cond (concerns s x e) (with_entry e.kind e.stamp f) f
-
--- ---- what is read: the figures without the stamps
-
-abbrev pub unstamped : {V : Type 0} → Option (Last V) → Option V
-unstamped None = None
-unstamped (Some o) = Some o.value
-
-abbrev pub values : Figures → Values
-values f = record {
-  trade = unstamped f.trade;
-  auction = unstamped f.auction;
-  spread = unstamped f.spread;
-  quote = unstamped f.quote;
-  lots = f.lots;
-  money = f.money;
-}
 
 -- room for one entry more, so that no sum passes 64 bits
 abbrev pub roomy : Figures → Bool

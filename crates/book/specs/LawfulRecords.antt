@@ -5,7 +5,7 @@ use Rattle.std.proofs.lemmas.Bool.{and_parts, and_from}
 use Rattle.book.specs.Bounds.{bounded}
 use Rattle.book.specs.Days.{is_lawful_day}
 use Rattle.book.specs.Entries.{allowed, kind_lawful}
-use Rattle.book.specs.Figures.{empty, entered_in, sound, stamp_small, values}
+use Rattle.book.specs.Figures.{empty, entered_in, sound, stamp_small}
 use Rattle.book.specs.Growth.{bounded_entered, bounded_empty}
 use Rattle.book.specs.Ledgers.{Lawful, entered, in_range}
 use Rattle.book.specs.Ranges.{allowed_kind, allowed_stamp, outside_stays}
@@ -28,19 +28,19 @@ pub sound_parts : (e : Entry) → sound e ≡ true → (stamp_small e.stamp ≡ 
 sound_parts e h = and_parts (stamp_small e.stamp) (kind_lawful e.kind) h
 
 pub bounded_from : (ok : Entry → Bool) → ((e : Entry) → ok e ≡ true → kind_lawful e.kind ≡ true) → (n s : ℕ) (x : ℤ × ℤ) (f : Figures) (es : List Entry)
-    → every ok es ≡ true → bounded n (values f) ≡ true → bounded (n + length es) (values (fold (entered_in s x) f es)) ≡ true
-bounded_from ok kind n s x f [] h b = subst (λ (k : ℕ). bounded k (values f) ≡ true) (sym (add-zero n)) b
+    → every ok es ≡ true → bounded n f ≡ true → bounded (n + length es) (fold (entered_in s x) f es) ≡ true
+bounded_from ok kind n s x f [] h b = subst (λ (k : ℕ). bounded k f ≡ true) (sym (add-zero n)) b
 bounded_from ok kind n s x f (e ∷ es) h b =
     let both = and_parts (ok e) (every ok es) h in
     let count : (n + 1) + length es ≡ n + length (e ∷ es) = omega arith in
-    subst (λ (k : ℕ). bounded k (values (fold (entered_in s x) (entered_in s x f e) es)) ≡ true) count
+    subst (λ (k : ℕ). bounded k (fold (entered_in s x) (entered_in s x f e) es) ≡ true) count
     (bounded_from ok kind (n + 1) s x (entered_in s x f e) es both.1 (bounded_entered n s x f e (kind e both.0) b))
 
 -- the figures of sound entries are within the bounds of their number
-pub bounded_fold : (s : ℕ) (x : ℤ × ℤ) (es : List Entry) → every sound es ≡ true → bounded (length es) (values (fold (entered_in s x) empty es)) ≡ true
+pub bounded_fold : (s : ℕ) (x : ℤ × ℤ) (es : List Entry) → every sound es ≡ true → bounded (length es) (fold (entered_in s x) empty es) ≡ true
 bounded_fold s x es h =
     let count : 0 + length es ≡ length es = omega arith in
-    subst (λ (k : ℕ). bounded k (values (fold (entered_in s x) empty es)) ≡ true) count (bounded_from sound (λ e k. (sound_parts e k).1) 0 s x empty es h (bounded_empty 0))
+    subst (λ (k : ℕ). bounded k (fold (entered_in s x) empty es) ≡ true) count (bounded_from sound (λ e k. (sound_parts e k).1) 0 s x empty es h (bounded_empty 0))
 
 outside_from : (d : Day) (s w : ℕ) (f : Figures) (es : List Entry) → every (allowed d) es ≡ true → in_range s w ≡ false → fold (entered d s w) f es ≡ f
 outside_from d s w f [] h r = refl

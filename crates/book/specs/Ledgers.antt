@@ -3,7 +3,7 @@ use Rattle.std.specs.Prelude.{◌≡◌, ℕ, ◌+◌, ◌≤◌, Bool, true, fa
 use Rattle.book.specs.Bounds.{bounded}
 use Rattle.book.specs.Days.{is_lawful_day}
 use Rattle.book.specs.Entries.{allowed}
-use Rattle.book.specs.Figures.{empty, entered_in, values}
+use Rattle.book.specs.Figures.{empty, entered_in}
 use Rattle.book.specs.Windows.{edges}
 use Rattle.book.specs.declared.days.Day.{Day}
 use Rattle.book.specs.declared.entries.Entry.{Entry}
@@ -60,6 +60,6 @@ pub record Lawful (m : Ledger) : Type 0 where
   pub lawful_day : is_lawful_day m.day ≡ true
   pub most : m.capacity ≤ 30000
   pub room : m.count ≤ m.capacity
-  pub bounds : (s w : ℕ) → bounded m.count (values (m.figures s w)) ≡ true
+  pub bounds : (s w : ℕ) → bounded m.count (m.figures s w) ≡ true
   pub outside : (s w : ℕ) → in_range s w ≡ false → m.figures s w ≡ empty
   pub none_taken : m.count ≡ 0 → (s w : ℕ) → m.figures s w ≡ empty

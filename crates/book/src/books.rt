@@ -1,13 +1,12 @@
 // A book, known by its meaning alone.
 ghost use Rattle.std.specs.Prelude.{◌≡◌, ℕ};
-ghost use Rattle.book.specs.Figures.{values};
 ghost use Rattle.book.specs.Ledgers.{Ledger, Lawful, memory_after, take_after, take_answer, fresh, admission};
 ghost use Rattle.book.specs.declared.entries.Entry.{Entry};
 
 use crate::days::Day;
 use crate::entries::{Entry, is_allowed};
 use crate::faults::BookFault;
-use crate::figures::Values;
+use crate::figures::Figures;
 use crate::lawful::LawfulDay;
 
 /// No book holds more entries.
@@ -48,8 +47,8 @@ pub trait Book {
 
     /// The figures of a series and a window; empty outside series 0 to 31 and windows 1 to 13. Raw numbers, since a narrower
     /// type would ask more of callers.
-    fn figures(&self, series: u8, window: u8) -> Values
-        ensures { result ≡ values ((meaning self.now).figures series window) };
+    fn figures(&self, series: u8, window: u8) -> Figures
+        ensures { result ≡ (meaning self.now).figures series window };
 
     /// The day record.
     fn day(&self) -> Day

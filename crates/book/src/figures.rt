@@ -1,7 +1,7 @@
 // The figures of one series and window.
 ghost use Rattle.std.specs.Prelude.{◌≡◌, ◌≤◌, true, false, ◌*ℤ◌, MatchOption, unsigned_abs};
 ghost use Rattle.book.specs.Entries.{kind_lawful, lots_lawful, price_lawful, side_lawful};
-ghost use Rattle.book.specs.Figures.{empty, entered_if, latest, with_entry, entered_sound, roomy, unstamped, sound, stamp_small, traded, values};
+ghost use Rattle.book.specs.Figures.{empty, entered_if, latest, with_entry, entered_sound, roomy, sound, stamp_small, traded};
 
 use crate::entries::{Entry, Kind, is_kind_lawful};
 use crate::lawful::DAY_END;
@@ -30,37 +30,17 @@ pub struct Sides {
     pub ask: Option<i32>,
 }
 
-/// The figures of one series and window, as they are kept. Stamps and prices are in 32 bits, so that a table of all series and
-/// windows stays small.
+/// The figures of one series and window. Stamps and prices are in 32 bits, so that a table of all series and windows stays small.
 #[derive(Clone, Copy, Default, PartialEq, Eq, Debug)]
 pub struct Figures {
-    /// The last trade's price; an auction is a trade too.
-    pub trade: Option<Last<i32>>,
-    /// The last auction's price.
-    pub auction: Option<Last<i32>>,
-    /// The last spread.
-    pub spread: Option<Last<i32>>,
-    /// The last quote.
-    pub quote: Option<Last<Sides>>,
-    /// All lots of the trades and auctions.
-    pub lots: i64,
-    /// The sum of price times lots over the trades and auctions, in points.
-    pub money: i64,
-}
-
-/// The figures as they are read: without the stamps.
-// One struct over the type of a last figure would be no plainer: the quote would need a parameter of its own, and specs and
-// other crates name both.
-#[derive(Clone, Copy, Default, PartialEq, Eq, Debug)]
-pub struct Values {
     /// The last trade's price in points; an auction is a trade too.
-    pub trade: Option<i32>,
+    pub trade: Option<Last<i32>>,
     /// The last auction's price in points.
-    pub auction: Option<i32>,
+    pub auction: Option<Last<i32>>,
     /// The last spread in points.
-    pub spread: Option<i32>,
+    pub spread: Option<Last<i32>>,
     /// The sides of the last quote.
-    pub quote: Option<Sides>,
+    pub quote: Option<Last<Sides>>,
     /// All lots of the trades and auctions.
     pub lots: i64,
     /// The sum of price times lots over the trades and auctions, in points.
@@ -75,13 +55,6 @@ fn latest<V: Copy>(old: Option<Last<V>>, stamp: i32, value: V) -> Option<Last<V>
         Some(last) if stamp < last.stamp => Some(last),
         _ => Some(Last { stamp, value }),
     }
-}
-
-// A last figure without its stamp.
-fn unstamped<V: Copy>(last: Option<Last<V>>) -> Option<V>
-    ensures { result ≡ unstamped last }
-{
-    last.map(|l| l.value)
 }
 
 // A number within the price limit, in 32 bits.
@@ -157,20 +130,6 @@ impl Figures {
         ensures { result ≡ empty }
     {
         Figures::default()
-    }
-
-    /// The figures without the stamps.
-    pub fn values(&self) -> Values
-        ensures { result ≡ values self.now }
-    {
-        Values {
-            trade: unstamped(self.trade),
-            auction: unstamped(self.auction),
-            spread: unstamped(self.spread),
-            quote: unstamped(self.quote),
-            lots: self.lots,
-            money: self.money,
-        }
     }
 
     // A trade enters the last trade and the sums.

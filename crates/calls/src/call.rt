@@ -51,7 +51,7 @@ pub enum Reply {
     Settled {
         /// The series as the question named it.
         series: i64,
-        /// Its price, and the step and place that decided.
+        /// Its price, the step and place that decided, and the time of the evidence.
         settlement: Settlement,
     },
 }

@@ -7,15 +7,16 @@ use Rattle.rows.specs.Codes.{at}
 use Rattle.rows.specs.declared.places.Edition.{Edition}
 use Rattle.rows.specs.declared.places.Place.{Place}
 use Rattle.rows.specs.declared.steps.Step as steps
-use Rattle.house.specs.Answers.{Answer, answered, answer_at, behind, by_row, first_found, or_later, or_refused, origin, origin_of, price_of, references, row_of, ruled_first, path_answer, some_refers, station}
+use Rattle.house.specs.Answers.{Answer, answered, answer_at, behind, by_row, first_found, or_later, or_refused, origin, origin_of, price_of, references, row_of, ruled_first, path_answer, some_refers, station, time_of}
 use Rattle.house.specs.Calls.{State, demand}
 use Rattle.house.specs.FindsPrice.{PlaceFinds}
-use Rattle.house.specs.Found.{Station, found}
+use Rattle.house.specs.Found.{Station, found, place_time}
 use Rattle.house.specs.Meaning.{AnswerOf, AreReferences, Explained, Refused, Settles, StandsAt, is_first, is_refused}
 use Rattle.house.specs.Questions.{is_open, or_no_price, settle_answer}
 use Rattle.house.specs.Rolls.{is_listed}
 use Rattle.house.specs.Series.{lawful_series}
 use Rattle.house.specs.declared.answers.Settlement.{Settlement}
+use Rattle.house.specs.declared.answers.TimedPrice.{TimedPrice}
 use Rattle.house.specs.declared.faults.HouseFault.{HouseFault}
 use Rattle.house.specs.declared.faults.HouseFault.TheVariants.{NoSuchSeries, WrongPhase}
 use Rattle.house.specs.declared.series.Ruling.{Ruling}
@@ -27,22 +28,22 @@ use Rattle.house.proofs.StepFinds.{found_is, none_found}
 -- ---- the first place that finds
 
 -- as `StandsAt` of what a place computes, with places counted from k
-record StandsFrom (find : Place → Option ℤ) (k : ℕ) (ps : List Place) (s : Settlement) : Type 0 where
+record StandsFrom (find : Place → Option TimedPrice) (k : ℕ) (ps : List Place) (s : Settlement) : Type 0 where
   position : ℕ
   place : Place
   stands : at ps position ≡ Some place
   counted : s.place ≡ position + k
   step : place.step ≡ s.step
-  price : find place ≡ Some s.price
+  finds : find place ≡ Some (record { price = s.price; time = s.time })
   before : (j : ℕ) (q : Place) → j < position → at ps j ≡ Some q → find q ≡ None
 
 -- a settlement stands at a place, or no place finds
-abbrev FoundFrom : (Place → Option ℤ) → ℕ → List Place → Option Settlement → Type 0
+abbrev FoundFrom : (Place → Option TimedPrice) → ℕ → List Place → Option Settlement → Type 0
 FoundFrom find k ps None = (j : ℕ) (q : Place) → at ps j ≡ Some q → find q ≡ None
 FoundFrom find k ps (Some s) = StandsFrom find k ps s
 
 -- after a place that finds nothing
-module _ (find : Place → Option ℤ) (k : ℕ) (p : Place) (ps : List Place) (none : find p ≡ None) where
+module _ (find : Place → Option TimedPrice) (k : ℕ) (p : Place) (ps : List Place) (none : find p ≡ None) where
   later_finds_not : FoundFrom find (k + 1) ps None → FoundFrom find k (p ∷ ps) None
   later_finds_not h zero q e = let same : p ≡ q = cc in subst (λ (r : Place). find r ≡ None) same none
   later_finds_not h (suc j) q e = h j q e
@@ -54,7 +55,7 @@ module _ (find : Place → Option ℤ) (k : ℕ) (p : Place) (ps : List Place) (
     stands = h.stands;
     counted = let c = h.counted in omega arith;
     step = h.step;
-    price = h.price;
+    finds = h.finds;
     before = before;
   }
     where
@@ -62,11 +63,11 @@ module _ (find : Place → Option ℤ) (k : ℕ) (p : Place) (ps : List Place) (
       before zero q l e = let same : p ≡ q = cc in subst (λ (r : Place). find r ≡ None) same none
       before (suc j) q l e = h.before j q (omega arith) e
 
-first_explained : (find : Place → Option ℤ) (k : ℕ) (ps : List Place) → FoundFrom find k ps (first_found find k ps)
+first_explained : (find : Place → Option TimedPrice) (k : ℕ) (ps : List Place) → FoundFrom find k ps (first_found find k ps)
 first_explained find k [] = λ j q e. grind arith
 first_explained find k (p ∷ ps) = by (find p) (first_found find (k + 1) ps) refl (first_explained find (k + 1) ps)
   where
-    by : (v : Option ℤ) (later : Option Settlement) → find p ≡ v → FoundFrom find (k + 1) ps later → FoundFrom find k (p ∷ ps) (or_later v p.step k later)
+    by : (v : Option TimedPrice) (later : Option Settlement) → find p ≡ v → FoundFrom find (k + 1) ps later → FoundFrom find k (p ∷ ps) (or_later v p.step k later)
     by None None is h = later_finds_not find k p ps is h
     by None (Some s) is h = later_stands find k p ps is s h
     by (Some v) later is h = record {
@@ -75,32 +76,36 @@ first_explained find k (p ∷ ps) = by (find p) (first_found find (k + 1) ps) re
       stands = refl;
       counted = omega arith;
       step = refl;
-      price = is;
+      finds = is;
       before = λ j q l e. absurd (omega arith);
     }
 
 -- ---- one series
 
 module _ (P : ℕ → ℤ → Bool) (near : (n : ℕ) (z : ℤ) → Near (P n) z) (ed : Edition) (x : Station) (u : Option Answer) where
-  abbrev find : Place → Option ℤ
-  find p = found P (price_of u) x p
+  abbrev find : Place → Option TimedPrice
+  find p = found P (price_of u) (time_of u) x p
 
   abbrev ps : List Place
   ps = row_of x.series ed
 
   none_finds : FoundFrom find 1 ps None → (k : ℕ) (q : Place) (p : ℤ) → at ps k ≡ Some q → PlaceFinds P (price_of u) x q p → ⊥
-  none_finds none k q p e = none_found P near (price_of u) x q p (none k q e)
+  none_finds none k q p e = none_found P near (price_of u) (time_of u) x q p (none k q e)
 
-  stands_at : (s : Settlement) → FoundFrom find 1 ps (Some s) → StandsAt (PlaceFinds P (price_of u) x) ps s
+  stands_at : (s : Settlement) → FoundFrom find 1 ps (Some s) → StandsAt (PlaceFinds P (price_of u) x) (place_time (time_of u) x) ps s
   stands_at s h = record {
     position = h.position;
     place = h.place;
     stands = h.stands;
     counted = h.counted;
     step = h.step;
-    price = found_is P near (price_of u) x h.place s.price h.price;
-    before = λ k q p l e. none_found P near (price_of u) x q p (h.before k q l e);
+    price = is.0;
+    time = is.1;
+    before = λ k q p l e. none_found P near (price_of u) (time_of u) x q p (h.before k q l e);
   }
+    where
+      is : PlaceFinds P (price_of u) x h.place s.price × (s.time ≡ place_time (time_of u) x h.place)
+      is = found_is P near (price_of u) (time_of u) x h.place (record { price = s.price; time = s.time }) h.finds
 
   refusal : is_first x.series.ruling ≡ false → FoundFrom find 1 ps None → Refused P ed x u (origin ed x u)
   refusal unruled none =
@@ -126,14 +131,14 @@ module _ (P : ℕ → ℤ → Bool) (near : (n : ℕ) (z : ℤ) → Near (P n) z
       by None none = refusal unruled none
       by (Some s) h = inr (unruled, stands_at s h)
 
-  answered_explained : Settles P ed x u (answered P ed x u)
+  pub answered_explained : Settles P ed x u (answered P ed x u)
   answered_explained = by x.series.ruling refl
     where
       by : (o : Option Ruling) → x.series.ruling ≡ o → Settles P ed x u (ruled_first o (by_row P ed x u))
       by None is = by_row_explained (ap is_first is)
       by (Some r) is =
-          cond_both r.first (Ok (record { price = r.value; step = steps.TheVariants.Ruling; place = 0 })) (by_row P ed x u) (Settles P ed x u)
-          (λ first. inl (record { ruling = r; stands = is; first = first; price = refl; step = refl; place = refl }))
+          cond_both r.first (Ok (record { price = r.value; step = steps.TheVariants.Ruling; place = 0; time = None })) (by_row P ed x u) (Settles P ed x u)
+          (λ first. inl (record { ruling = r; stands = is; first = first; price = refl; step = refl; place = refl; time = refl }))
           (λ after. by_row_explained (ap is_first is ∙ after))
 
 -- ---- along the path
@@ -143,7 +148,7 @@ path_explained P near ed x [] = answered_explained P near ed x None
 path_explained P near ed x (y ∷ ys) = (path_answer P ed y ys, path_explained P near ed y ys, answered_explained P near ed x (Some (path_answer P ed y ys)))
 
 -- so many steps as the first number end at a series that has no reference, since each reference is earlier
-behind_explained : (all : ℕ → Series) → ((n : ℕ) → lawful_series n (all n) ≡ true) → (k : ℕ) (o : Option ℕ) → ((r : ℕ) → o ≡ Some r → r < k) → AreReferences all o (behind k all o)
+pub behind_explained : (all : ℕ → Series) → ((n : ℕ) → lawful_series n (all n) ≡ true) → (k : ℕ) (o : Option ℕ) → ((r : ℕ) → o ≡ Some r → r < k) → AreReferences all o (behind k all o)
 behind_explained all lawful k None under = refl
 behind_explained all lawful zero (Some r) under = let h = under r refl in absurd (omega arith)
 behind_explained all lawful (suc k) (Some r) under =

@@ -3,10 +3,11 @@ use Rattle.std.proofs.Common.{◌≡◌, ℕ, ◌+◌, ◌≤◌, Bool, true, co
 use lib.Signed.{le_z}
 use Rattle.std.proofs.lemmas.Int.{ints}
 use Rattle.std.proofs.lemmas.Bool.{and_parts, cond_both, cond-false, cond-true}
-use Rattle.book.specs.Bounds.{bounded, spread_if}
+use Rattle.book.specs.Bounds.{bounded, last_if}
 use Rattle.book.specs.Entries.{price_lawful, side_lawful, spread_lawful}
+use Rattle.book.specs.declared.figures.Figures.{Figures}
+use Rattle.book.specs.declared.figures.Last.{Last}
 use Rattle.book.specs.declared.figures.Sides.{Sides}
-use Rattle.book.specs.declared.figures.Values.{Values}
 use Rattle.book.specs.Growth.{parts}
 use Rattle.book.specs.Limits.{price_bound}
 use Rattle.ladders.specs.Fractions.{ceiling, floor, inside}
@@ -18,8 +19,8 @@ use Rattle.ladders.proofs.Nearest.{above_of_is, above_value, below_of_is, ceilin
 use Rattle.rows.specs.declared.steps.Step.{Step}
 use Rattle.rows.specs.declared.steps.Step.TheVariants.{Auction, Trade, Quote, Average, Theory, TheoryUp, Spread, PreviousSpread, Copy, Previous, Ruling}
 use Rattle.house.specs.Answers.{Answer, ruled_first}
-use Rattle.house.specs.Found.{above_theory, finds, less, middle, nearest_theory, quoted, ruled}
-use Rattle.house.specs.Reach.{InReach, InReachBefore, reach}
+use Rattle.house.specs.Found.{above_theory, finds, last_value, less, middle, nearest_theory, quoted, ruled}
+use Rattle.house.specs.Reach.{InReach, InReachBefore, reach, spread_if}
 use Rattle.house.specs.Series.{lawful_ruling, lawful_series}
 use Rattle.house.specs.Terms.{lawful_spread}
 use Rattle.house.specs.declared.series.Ruling as rulings
@@ -52,6 +53,18 @@ series_parts n s h =
 -- the previous spread that a series has, if any, is within the limits of spreads
 pub previous_spread_within : (n : ℕ) (s : Series) → lawful_series n s ≡ true → spread_if s.terms.previous_spread ≡ true
 previous_spread_within n s h = (series_parts n s h).previous_spread
+
+-- a last figure, if there is one, has a value within the limits of its kind
+last_price_within : (o : Option (Last ℤ)) → last_if price_lawful o ≡ true → side_lawful (last_value o) ≡ true
+last_price_within None h = refl
+last_price_within (Some l) h = h
+
+last_if_spread : (o : Option (Last ℤ)) → last_if spread_lawful o ≡ true → spread_if (last_value o) ≡ true
+last_if_spread None h = refl
+last_if_spread (Some l) h = h
+
+pub last_spread_within : (k : ℕ) (f : Figures) → bounded k f ≡ true → spread_if (last_value f.spread) ≡ true
+last_spread_within k f b = last_if_spread f.spread (parts k f b).spread
 
 -- ---- how far prices reach
 
@@ -136,22 +149,22 @@ ruling_reach n None h = tt
 ruling_reach n (Some r) h = price_reach n r.value h
 
 -- whatever a step finds is in reach, where the reference's price is a spread short of it
-pub finds_reach : (P : ℤ → Bool) → ((z : ℤ) → Near P z) → (n k : ℕ) (p : Option ℤ) (s : Series) (v : Values) (step : Step) → lawful_series n s ≡ true → InReachBefore n p → bounded k v ≡ true → InReach n (finds P p s v step)
-finds_reach P near n k p s v Auction h r b = within_reach n v.auction (parts k v b).auction
-finds_reach P near n k p s v Trade h r b = within_reach n v.trade (parts k v b).trade
-finds_reach P near n k p s v Quote h r b = quote_reach P near n v.quote
-finds_reach P near n k p s v Average h r b = nearest_reach P near n v.money (nat_abs v.lots)
-finds_reach P near n k p s v Theory h r b = (theory_reach P near n s.theory).0
-finds_reach P near n k p s v TheoryUp h r b = (theory_reach P near n s.theory).1
-finds_reach P near n k p s v Spread h r b = less_reach n p v.spread r (parts k v b).spread
-finds_reach P near n k p s v PreviousSpread h r b = less_reach n p s.terms.previous_spread r (previous_spread_within n s h)
-finds_reach P near n k p s v Copy h r b = before_reach n p r
-finds_reach P near n k p s v Previous h r b = within_reach n s.terms.previous_settlement (series_parts n s h).previous_settlement
-finds_reach P near n k p s v Ruling h r b = ruling_reach n s.ruling (series_parts n s h).ruling
+pub finds_reach : (P : ℤ → Bool) → ((z : ℤ) → Near P z) → (n k : ℕ) (p : Option ℤ) (s : Series) (f : Figures) (step : Step) → lawful_series n s ≡ true → InReachBefore n p → bounded k f ≡ true → InReach n (finds P p s f step)
+finds_reach P near n k p s f Auction h r b = within_reach n (last_value f.auction) (last_price_within f.auction (parts k f b).auction)
+finds_reach P near n k p s f Trade h r b = within_reach n (last_value f.trade) (last_price_within f.trade (parts k f b).trade)
+finds_reach P near n k p s f Quote h r b = quote_reach P near n (last_value f.quote)
+finds_reach P near n k p s f Average h r b = nearest_reach P near n f.money (nat_abs f.lots)
+finds_reach P near n k p s f Theory h r b = (theory_reach P near n s.theory).0
+finds_reach P near n k p s f TheoryUp h r b = (theory_reach P near n s.theory).1
+finds_reach P near n k p s f Spread h r b = less_reach n p (last_value f.spread) r (last_spread_within k f b)
+finds_reach P near n k p s f PreviousSpread h r b = less_reach n p s.terms.previous_spread r (previous_spread_within n s h)
+finds_reach P near n k p s f Copy h r b = before_reach n p r
+finds_reach P near n k p s f Previous h r b = within_reach n s.terms.previous_settlement (series_parts n s h).previous_settlement
+finds_reach P near n k p s f Ruling h r b = ruling_reach n s.ruling (series_parts n s h).ruling
 
 -- a ruling that stands with the first mark is the answer, and within the limit
-pub ruled_at_once : (n : ℕ) (s : Series) (r : rulings.Ruling) (more : Answer) → lawful_series n s ≡ true → s.ruling ≡ Some r → r.first ≡ true → (Ok (record { price = r.value; step = Ruling; place = 0 }) ≡ ruled_first s.ruling more) × (nat_abs r.value ≤ reach n)
+pub ruled_at_once : (n : ℕ) (s : Series) (r : rulings.Ruling) (more : Answer) → lawful_series n s ≡ true → s.ruling ≡ Some r → r.first ≡ true → (Ok (record { price = r.value; step = Ruling; place = 0; time = None }) ≡ ruled_first s.ruling more) × (nat_abs r.value ≤ reach n)
 ruled_at_once n s r more h is first =
     let lawful : lawful_ruling (Some r) ≡ true = ap lawful_ruling (sym is) ∙ (series_parts n s h).ruling in
-    let taken = cond-true r.first (Ok (record { price = r.value; step = Ruling; place = 0 })) more first in
+    let taken = cond-true r.first (Ok (record { price = r.value; step = Ruling; place = 0; time = None })) more first in
     (sym (ap (λ o. ruled_first o more) is ∙ taken), price_reach n r.value lawful)

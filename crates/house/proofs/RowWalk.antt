@@ -1,11 +1,12 @@
 -- A row gone through place by place.
-use Rattle.std.proofs.Common.{◌≡◌, ℕ, zero, suc, ◌+◌, ◌≤◌, Bool, false, ◌||◌, List, [], ◌∷◌, length, drop, get_or, ℤ, Some, None, Option, refl, ap, ◌∙◌, arith}
+use Rattle.std.proofs.Common.{◌≡◌, ℕ, zero, suc, ◌+◌, ◌≤◌, Bool, false, ◌||◌, List, [], ◌∷◌, length, drop, get_or, Some, None, Option, refl, ap, ◌∙◌, arith}
 use Rattle.std.specs.List.{list_any}
 use Rattle.std.proofs.lemmas.List.{drop_all}
 use Rattle.rows.specs.Codes.{at}
 use Rattle.rows.specs.declared.places.Place.{Place}
 use Rattle.house.specs.Answers.{first_found, or_later, refers, some_refers}
 use Rattle.house.specs.declared.answers.Settlement.{Settlement}
+use Rattle.house.specs.declared.answers.TimedPrice.{TimedPrice}
 
 -- ---- what is left of a row at a position
 
@@ -22,11 +23,11 @@ rest_none (q ∷ ps) (suc j) h = rest_none ps j h
 
 -- ---- the first place that finds a price
 
-module _ (find : Place → Option ℤ) (ps : List Place) (j : ℕ) (whole : Option Settlement) (so_far : whole ≡ first_found find (j + 1) (drop j ps)) where
+module _ (find : Place → Option TimedPrice) (ps : List Place) (j : ℕ) (whole : Option Settlement) (so_far : whole ≡ first_found find (j + 1) (drop j ps)) where
   here : (p : Place) → at ps j ≡ Some p → whole ≡ or_later (find p) p.step (j + 1) (first_found find (j + 1 + 1) (drop (j + 1) ps))
   here p h = so_far ∙ ap (first_found find (j + 1)) (rest_some ps j p h)
 
-  pub found_here : (p : Place) (v : ℤ) → at ps j ≡ Some p → find p ≡ Some v → whole ≡ Some (record { price = v; step = p.step; place = j + 1 })
+  pub found_here : (p : Place) (v : TimedPrice) → at ps j ≡ Some p → find p ≡ Some v → whole ≡ Some (record { price = v.price; step = p.step; place = j + 1; time = v.time })
   found_here p v h is = here p h ∙ ap (λ o. or_later o p.step (j + 1) (first_found find (j + 1 + 1) (drop (j + 1) ps))) is
 
   pub found_later : (p : Place) → at ps j ≡ Some p → find p ≡ None → whole ≡ first_found find (j + 1 + 1) (drop (j + 1) ps)

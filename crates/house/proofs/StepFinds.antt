@@ -2,8 +2,8 @@
 use Rattle.std.proofs.Common.{◌≡◌, ℕ, ◌<◌, Bool, true, cond, ℤ, ◌+ℤ◌, ◌-ℤ◌, nat_abs, Some, None, Option, refl, sym, ap, ◌∙◌, subst}
 use Rattle.std.proofs.lemmas.Bool.{cond_both, cond-true}
 use Rattle.std.proofs.lemmas.Option.{none-some, same_Some}
+use Rattle.book.specs.declared.figures.Figures.{Figures}
 use Rattle.book.specs.declared.figures.Sides.{Sides}
-use Rattle.book.specs.declared.figures.Values.{Values}
 use Rattle.ladders.specs.Fractions.{ceiling, floor, inside}
 use Rattle.ladders.specs.Orders.{above_once}
 use Rattle.ladders.specs.Prices.{within}
@@ -15,7 +15,8 @@ use Rattle.rows.specs.declared.places.Place.{Place}
 use Rattle.rows.specs.declared.steps.Step.{Step}
 use Rattle.rows.specs.declared.steps.Step.TheVariants.{Auction, Trade, Quote, Average, Theory, TheoryUp, Spread, PreviousSpread, Copy, Previous, Ruling}
 use Rattle.house.specs.FindsPrice.{FindsPrice, IsLess, IsNearest, IsNearestMiddle, PlaceFinds}
-use Rattle.house.specs.Found.{Station, above_theory, finds, found, less, middle, nearest_theory, quoted, ruled}
+use Rattle.house.specs.Found.{Station, above_theory, finds, found, last_value, less, middle, nearest_theory, place_time, quoted, ruled, timed}
+use Rattle.house.specs.declared.answers.TimedPrice.{TimedPrice}
 use Rattle.house.specs.declared.series.Ruling as rulings
 use Rattle.house.specs.declared.series.Series.{Series}
 
@@ -39,20 +40,20 @@ module _ (P : ℤ → Bool) where
       let spreads = same_value spread b d k m in
       e ∙ (λ i. references i -ℤ spreads i) ∙ sym f
 
-  finds_once : (u : Option ℤ) (s : Series) (v : Values) (t : Step) (p r : ℤ) → FindsPrice P u s v t p → FindsPrice P u s v t r → p ≡ r
-  finds_once u s v Auction p r h k = same_value v.auction p r h k
-  finds_once u s v Trade p r h k = same_value v.trade p r h k
-  finds_once u s v Quote p r h k = nearest_middle_once v.quote p r h k
-  finds_once u s v Average p r h k = nearest_once P v.money (nat_abs v.lots) p r h.1 k.1
-  finds_once u s v Theory p r (a, h, m) (b, k, n) =
+  finds_once : (u : Option ℤ) (s : Series) (f : Figures) (t : Step) (p r : ℤ) → FindsPrice P u s f t p → FindsPrice P u s f t r → p ≡ r
+  finds_once u s f Auction p r h k = same_value (last_value f.auction) p r h k
+  finds_once u s f Trade p r h k = same_value (last_value f.trade) p r h k
+  finds_once u s f Quote p r h k = nearest_middle_once (last_value f.quote) p r h k
+  finds_once u s f Average p r h k = nearest_once P f.money (nat_abs f.lots) p r h.1 k.1
+  finds_once u s f Theory p r (a, h, m) (b, k, n) =
       nearest_once P b 1 p r (subst (λ (z : ℤ). Nearest P z 1 p) (same_value s.theory a b h k) m.1) n.1
-  finds_once u s v TheoryUp p r (a, h, l, m) (b, k, g, n) =
+  finds_once u s f TheoryUp p r (a, h, l, m) (b, k, g, n) =
       above_once P b p r (subst (λ (z : ℤ). Above P z p) (same_value s.theory a b h k) m) n
-  finds_once u s v Spread p r h k = less_once u v.spread p r h k
-  finds_once u s v PreviousSpread p r h k = less_once u s.terms.previous_spread p r h k
-  finds_once u s v Copy p r h k = same_value u p r h k
-  finds_once u s v Previous p r h k = same_value s.terms.previous_settlement p r h k
-  finds_once u s v Ruling p r (a, h, e) (b, k, f) = e ∙ ap (λ (x : rulings.Ruling). x.value) (same_value s.ruling a b h k) ∙ sym f
+  finds_once u s f Spread p r h k = less_once u (last_value f.spread) p r h k
+  finds_once u s f PreviousSpread p r h k = less_once u s.terms.previous_spread p r h k
+  finds_once u s f Copy p r h k = same_value u p r h k
+  finds_once u s f Previous p r h k = same_value s.terms.previous_settlement p r h k
+  finds_once u s f Ruling p r (a, h, e) (b, k, g) = e ∙ ap (λ (x : rulings.Ruling). x.value) (same_value s.ruling a b h k) ∙ sym g
 
 pub place_finds_once : (P : ℕ → ℤ → Bool) (u : Option ℤ) (x : Station) (q : Place) (p r : ℤ) → PlaceFinds P u x q p → PlaceFinds P u x q r → p ≡ r
 place_finds_once P u x q p r h k = finds_once (P x.series.terms.ladder) u x.series (x.figures (window_number q.window)) q.step p r h k
@@ -104,48 +105,65 @@ module _ (P : ℤ → Bool) (near : (z : ℤ) → Near P z) where
   above_theory_value v p e h = cond-true (within v) (Some (above_of P v)) None e ∙ ap Some (sym (above_value P near v p h))
 
   -- so for every step
-  finds_value : (u : Option ℤ) (s : Series) (v : Values) (t : Step) (p : ℤ) → FindsPrice P u s v t p → finds P u s v t ≡ Some p
-  finds_value u s v Auction p h = h
-  finds_value u s v Trade p h = h
-  finds_value u s v Quote p h = quoted_value v.quote p h
-  finds_value u s v Average p h = nearest_price_value v.money (nat_abs v.lots) p h
-  finds_value u s v Theory p (a, h, m) = ap (nearest_theory P) h ∙ nearest_price_value a 1 p m
-  finds_value u s v TheoryUp p (a, h, e, m) = ap (above_theory P) h ∙ above_theory_value a p e m
-  finds_value u s v Spread p h = less_value u v.spread p h
-  finds_value u s v PreviousSpread p h = less_value u s.terms.previous_spread p h
-  finds_value u s v Copy p h = h
-  finds_value u s v Previous p h = h
-  finds_value u s v Ruling p (a, h, e) = ap ruled h ∙ ap Some (sym e)
+  finds_value : (u : Option ℤ) (s : Series) (f : Figures) (t : Step) (p : ℤ) → FindsPrice P u s f t p → finds P u s f t ≡ Some p
+  finds_value u s f Auction p h = h
+  finds_value u s f Trade p h = h
+  finds_value u s f Quote p h = quoted_value (last_value f.quote) p h
+  finds_value u s f Average p h = nearest_price_value f.money (nat_abs f.lots) p h
+  finds_value u s f Theory p (a, h, m) = ap (nearest_theory P) h ∙ nearest_price_value a 1 p m
+  finds_value u s f TheoryUp p (a, h, e, m) = ap (above_theory P) h ∙ above_theory_value a p e m
+  finds_value u s f Spread p h = less_value u (last_value f.spread) p h
+  finds_value u s f PreviousSpread p h = less_value u s.terms.previous_spread p h
+  finds_value u s f Copy p h = h
+  finds_value u s f Previous p h = h
+  finds_value u s f Ruling p (a, h, e) = ap ruled h ∙ ap Some (sym e)
 
-  finds_is : (u : Option ℤ) (s : Series) (v : Values) (t : Step) (p : ℤ) → finds P u s v t ≡ Some p → FindsPrice P u s v t p
-  finds_is u s v Auction p h = h
-  finds_is u s v Trade p h = h
-  finds_is u s v Quote p h = quoted_is v.quote p h
-  finds_is u s v Average p h = nearest_price_is v.money (nat_abs v.lots) p h
-  finds_is u s v Theory p h = by s.theory refl h
+  finds_is : (u : Option ℤ) (s : Series) (f : Figures) (t : Step) (p : ℤ) → finds P u s f t ≡ Some p → FindsPrice P u s f t p
+  finds_is u s f Auction p h = h
+  finds_is u s f Trade p h = h
+  finds_is u s f Quote p h = quoted_is (last_value f.quote) p h
+  finds_is u s f Average p h = nearest_price_is f.money (nat_abs f.lots) p h
+  finds_is u s f Theory p h = by s.theory refl h
     where
-      by : (o : Option ℤ) → s.theory ≡ o → nearest_theory P o ≡ Some p → FindsPrice P u s v Theory p
+      by : (o : Option ℤ) → s.theory ≡ o → nearest_theory P o ≡ Some p → FindsPrice P u s f Theory p
       by None e k = absurd (none-some p k)
       by (Some a) e k = (a, e, nearest_price_is a 1 p k)
-  finds_is u s v TheoryUp p h = by s.theory refl h
+  finds_is u s f TheoryUp p h = by s.theory refl h
     where
-      by : (o : Option ℤ) → s.theory ≡ o → above_theory P o ≡ Some p → FindsPrice P u s v TheoryUp p
+      by : (o : Option ℤ) → s.theory ≡ o → above_theory P o ≡ Some p → FindsPrice P u s f TheoryUp p
       by None e k = absurd (none-some p k)
       by (Some a) e k = let above = above_theory_is a p k in (a, e, above.0, above.1)
-  finds_is u s v Spread p h = less_is u v.spread p h
-  finds_is u s v PreviousSpread p h = less_is u s.terms.previous_spread p h
-  finds_is u s v Copy p h = h
-  finds_is u s v Previous p h = h
-  finds_is u s v Ruling p h = by s.ruling refl h
+  finds_is u s f Spread p h = less_is u (last_value f.spread) p h
+  finds_is u s f PreviousSpread p h = less_is u s.terms.previous_spread p h
+  finds_is u s f Copy p h = h
+  finds_is u s f Previous p h = h
+  finds_is u s f Ruling p h = by s.ruling refl h
     where
-      by : (o : Option rulings.Ruling) → s.ruling ≡ o → ruled o ≡ Some p → FindsPrice P u s v Ruling p
+      by : (o : Option rulings.Ruling) → s.ruling ≡ o → ruled o ≡ Some p → FindsPrice P u s f Ruling p
       by None e k = absurd (none-some p k)
       by (Some a) e k = (a, e, sym (same_Some a.value p k))
 
-module _ (P : ℕ → ℤ → Bool) (near : (n : ℕ) (z : ℤ) → Near (P n) z) (u : Option ℤ) (x : Station) (q : Place) (p : ℤ) where
-  pub found_is : found P u x q ≡ Some p → PlaceFinds P u x q p
-  found_is h = finds_is (P x.series.terms.ladder) (near x.series.terms.ladder) u x.series (x.figures (window_number q.window)) q.step p h
+-- what is found with its time has the price and the time
+timed_parts : (price time : Option ℤ) (v : TimedPrice) → timed price time ≡ Some v → (price ≡ Some v.price) × (time ≡ v.time)
+timed_parts None time v h = absurd (none-some v h)
+timed_parts (Some p) time v h =
+    let same = same_Some (record { price = p; time = time }) v h in
+    (ap (λ (w : TimedPrice). Some w.price) same, ap (λ (w : TimedPrice). w.time) same)
 
-  pub none_found : found P u x q ≡ None → PlaceFinds P u x q p → ⊥
-  none_found none h =
-      none-some p (sym none ∙ finds_value (P x.series.terms.ladder) (near x.series.terms.ladder) u x.series (x.figures (window_number q.window)) q.step p h)
+no_price : (price time : Option ℤ) → timed price time ≡ None → price ≡ None
+no_price None time h = refl
+no_price (Some p) time h = absurd (none-some (record { price = p; time = time }) (sym h))
+
+module _ (P : ℕ → ℤ → Bool) (near : (n : ℕ) (z : ℤ) → Near (P n) z) (u time : Option ℤ) (x : Station) (q : Place) where
+  abbrev price : Option ℤ
+  price = finds (P x.series.terms.ladder) u x.series (x.figures (window_number q.window)) q.step
+
+  pub found_is : (v : TimedPrice) → found P u time x q ≡ Some v → PlaceFinds P u x q v.price × (v.time ≡ place_time time x q)
+  found_is v h =
+      let both = timed_parts price (place_time time x q) v h in
+      (finds_is (P x.series.terms.ladder) (near x.series.terms.ladder) u x.series (x.figures (window_number q.window)) q.step v.price both.0, sym both.1)
+
+  pub none_found : (p : ℤ) → found P u time x q ≡ None → PlaceFinds P u x q p → ⊥
+  none_found p none h =
+      none-some p (sym (no_price price (place_time time x q) none)
+      ∙ finds_value (P x.series.terms.ladder) (near x.series.terms.ladder) u x.series (x.figures (window_number q.window)) q.step p h)

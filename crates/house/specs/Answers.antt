@@ -1,6 +1,5 @@
 -- The answer for a series, from the stations of its path.
 use Rattle.std.specs.Prelude.{ℕ, zero, suc, ◌+◌, Bool, true, false, cond, ◌||◌, List, [], ◌∷◌, map, ℤ, Some, None, Ok, Err, Option, Result}
-use Rattle.book.specs.Figures.{values}
 use Rattle.book.specs.Ledgers.{Ledger}
 use Rattle.rows.specs.Chosen.{chosen}
 use Rattle.rows.specs.Rows.{row}
@@ -11,6 +10,7 @@ use Rattle.rows.specs.declared.steps.Step.TheVariants.{Auction, Trade, Quote, Av
 use Rattle.house.specs.Calls.{State}
 use Rattle.house.specs.Found.{Station, found}
 use Rattle.house.specs.declared.answers.Settlement.{Settlement}
+use Rattle.house.specs.declared.answers.TimedPrice.{TimedPrice}
 use Rattle.house.specs.declared.series.Ruling as rulings
 use Rattle.house.specs.declared.series.Series.{Series}
 
@@ -24,13 +24,13 @@ Answer = Result Settlement ℕ
 abbrev pub row_of : Series → Edition → List Place
 row_of s ed = row s.terms.family (chosen s.terms.family s.terms.marks ed)
 
--- the price that a place found, else what comes after it
-abbrev pub or_later : Option ℤ → Step → ℕ → Option Settlement → Option Settlement
+-- the price that a place found, with its time, else what comes after it
+abbrev pub or_later : Option TimedPrice → Step → ℕ → Option Settlement → Option Settlement
 or_later None step k later = later
-or_later (Some v) step k later = Some (record { price = v; step = step; place = k })
+or_later (Some v) step k later = Some (record { price = v.price; step = step; place = k; time = v.time })
 
 -- the first place that finds a price, counted from k
-abbrev pub first_found : (Place → Option ℤ) → ℕ → List Place → Option Settlement
+abbrev pub first_found : (Place → Option TimedPrice) → ℕ → List Place → Option Settlement
 first_found find k [] = None
 first_found find k (p ∷ ps) = or_later (find p) p.step k (first_found find (k + 1) ps)
 
@@ -58,6 +58,12 @@ price_of None = None
 price_of (Some (Ok s)) = Some s.price
 price_of (Some (Err o)) = None
 
+-- the time of its answer
+abbrev pub time_of : Option Answer → Option ℤ
+time_of None = None
+time_of (Some (Ok s)) = s.time
+time_of (Some (Err o)) = None
+
 -- the reference's origin, where there is a reference and it is refused; else the series itself
 abbrev pub origin_of : ℕ → Option Answer → ℕ
 origin_of n None = n
@@ -74,12 +80,13 @@ or_refused None o = Err o
 
 -- by the row: the first place that finds a price, or a refusal
 abbrev pub by_row : (ℕ → ℤ → Bool) → Edition → Station → Option Answer → Answer
-by_row lawful ed x reference = or_refused (first_found (found lawful (price_of reference) x) 1 (row_of x.series ed)) (origin ed x reference)
+by_row lawful ed x reference =
+    or_refused (first_found (found lawful (price_of reference) (time_of reference) x) 1 (row_of x.series ed)) (origin ed x reference)
 
 -- a ruling with the first mark comes before the row
 abbrev pub ruled_first : Option rulings.Ruling → Answer → Answer
 ruled_first None more = more
-ruled_first (Some r) more = cond r.first (Ok (record { price = r.value; step = Ruling; place = 0 })) more
+ruled_first (Some r) more = cond r.first (Ok (record { price = r.value; step = Ruling; place = 0; time = None })) more
 
 abbrev pub answered : (ℕ → ℤ → Bool) → Edition → Station → Option Answer → Answer
 answered lawful ed x reference = ruled_first x.series.ruling (by_row lawful ed x reference)
@@ -105,7 +112,7 @@ path all n = n ∷ references all n
 
 -- the station of a series with a book of this meaning
 abbrev pub station_of : ℕ → Series → Ledger → Station
-station_of n s m = record { number = n; series = s; figures = λ w. values (m.figures n w) }
+station_of n s m = record { number = n; series = s; figures = m.figures n }
 
 -- in a house of this state
 abbrev pub station : State → Ledger → ℕ → Station

@@ -1,7 +1,7 @@
 -- That a step finds a price, as a relation in the words of the rules.
 use Rattle.std.specs.Prelude.{◌≡◌, ℕ, Bool, true, ℤ, ◌+ℤ◌, ◌-ℤ◌, Some, Option, unsigned_abs}
+use Rattle.book.specs.declared.figures.Figures.{Figures}
 use Rattle.book.specs.declared.figures.Sides.{Sides}
-use Rattle.book.specs.declared.figures.Values.{Values}
 use Rattle.ladders.specs.Fractions.{inside}
 use Rattle.ladders.specs.Prices.{within}
 use Rattle.ladders.specs.Rounding.{Above, Nearest}
@@ -9,7 +9,7 @@ use Rattle.rows.specs.Codes.{window_number}
 use Rattle.rows.specs.declared.places.Place.{Place}
 use Rattle.rows.specs.declared.steps.Step.{Step}
 use Rattle.rows.specs.declared.steps.Step.TheVariants.{Auction, Trade, Quote, Average, Theory, TheoryUp, Spread, PreviousSpread, Copy, Previous, Ruling}
-use Rattle.house.specs.Found.{Station}
+use Rattle.house.specs.Found.{Station, last_value}
 use Rattle.house.specs.declared.series.Ruling as rulings
 use Rattle.house.specs.declared.series.Series.{Series}
 
@@ -28,18 +28,18 @@ IsLess reference spread p = (r : ℤ) × (d : ℤ) × (reference ≡ Some r) × 
 
 -- the step finds p on the lawful prices of the series' ladder, with the reference's price, where there is one, and the figures of the
 -- step's window
-abbrev pub FindsPrice : (ℤ → Bool) → Option ℤ → Series → Values → Step → ℤ → Type 0
-FindsPrice lawful reference s v Auction p = v.auction ≡ Some p
-FindsPrice lawful reference s v Trade p = v.trade ≡ Some p
-FindsPrice lawful reference s v Quote p = IsNearestMiddle lawful v.quote p
-FindsPrice lawful reference s v Average p = IsNearest lawful v.money (unsigned_abs v.lots) p
-FindsPrice lawful reference s v Theory p = (t : ℤ) × (s.theory ≡ Some t) × IsNearest lawful t 1 p
-FindsPrice lawful reference s v TheoryUp p = (t : ℤ) × (s.theory ≡ Some t) × (within t ≡ true) × Above lawful t p
-FindsPrice lawful reference s v Spread p = IsLess reference v.spread p
-FindsPrice lawful reference s v PreviousSpread p = IsLess reference s.terms.previous_spread p
-FindsPrice lawful reference s v Copy p = reference ≡ Some p
-FindsPrice lawful reference s v Previous p = s.terms.previous_settlement ≡ Some p
-FindsPrice lawful reference s v Ruling p = (r : rulings.Ruling) × (s.ruling ≡ Some r) × (p ≡ r.value)
+abbrev pub FindsPrice : (ℤ → Bool) → Option ℤ → Series → Figures → Step → ℤ → Type 0
+FindsPrice lawful reference s f Auction p = last_value f.auction ≡ Some p
+FindsPrice lawful reference s f Trade p = last_value f.trade ≡ Some p
+FindsPrice lawful reference s f Quote p = IsNearestMiddle lawful (last_value f.quote) p
+FindsPrice lawful reference s f Average p = IsNearest lawful f.money (unsigned_abs f.lots) p
+FindsPrice lawful reference s f Theory p = (t : ℤ) × (s.theory ≡ Some t) × IsNearest lawful t 1 p
+FindsPrice lawful reference s f TheoryUp p = (t : ℤ) × (s.theory ≡ Some t) × (within t ≡ true) × Above lawful t p
+FindsPrice lawful reference s f Spread p = IsLess reference (last_value f.spread) p
+FindsPrice lawful reference s f PreviousSpread p = IsLess reference s.terms.previous_spread p
+FindsPrice lawful reference s f Copy p = reference ≡ Some p
+FindsPrice lawful reference s f Previous p = s.terms.previous_settlement ≡ Some p
+FindsPrice lawful reference s f Ruling p = (r : rulings.Ruling) × (s.ruling ≡ Some r) × (p ≡ r.value)
 
 -- the place of a row finds p for a series: its step does, with the figures of its window
 abbrev pub PlaceFinds : (ℕ → ℤ → Bool) → Option ℤ → Station → Place → ℤ → Type 0

@@ -1,13 +1,15 @@
 -- What each step finds, from what is known of a series.
 use Rattle.std.specs.Prelude.{ℕ, Bool, cond, ℤ, ◌+ℤ◌, ◌-ℤ◌, Some, None, Option, unsigned_abs}
+use Rattle.book.specs.declared.figures.Figures.{Figures}
+use Rattle.book.specs.declared.figures.Last.{Last}
 use Rattle.book.specs.declared.figures.Sides.{Sides}
-use Rattle.book.specs.declared.figures.Values.{Values}
 use Rattle.ladders.specs.Prices.{within}
 use Rattle.ladders.specs.Values.{above_of, nearest_price}
 use Rattle.rows.specs.Codes.{window_number}
 use Rattle.rows.specs.declared.places.Place.{Place}
 use Rattle.rows.specs.declared.steps.Step.{Step}
 use Rattle.rows.specs.declared.steps.Step.TheVariants.{Auction, Trade, Quote, Average, Theory, TheoryUp, Spread, PreviousSpread, Copy, Previous, Ruling}
+use Rattle.house.specs.declared.answers.TimedPrice.{TimedPrice}
 use Rattle.house.specs.declared.series.Ruling as rulings
 use Rattle.house.specs.declared.series.Series.{Series}
 
@@ -16,7 +18,16 @@ use Rattle.house.specs.declared.series.Series.{Series}
 pub record Station : Type 0 where
   pub number : ℕ
   pub series : Series
-  pub figures : ℕ → Values
+  pub figures : ℕ → Figures
+
+-- the value and the stamp of a last figure, if there is one
+abbrev pub last_value : {V : Type 0} → Option (Last V) → Option V
+last_value None = None
+last_value (Some l) = Some l.value
+
+abbrev pub last_stamp : {V : Type 0} → Option (Last V) → Option ℤ
+last_stamp None = None
+last_stamp (Some l) = Some l.stamp
 
 -- nearest of the middle of bid and ask, where both stand
 abbrev pub middle : (ℤ → Bool) → Option ℤ → Option ℤ → Option ℤ
@@ -50,20 +61,45 @@ abbrev pub ruled : Option rulings.Ruling → Option ℤ
 ruled None = None
 ruled (Some r) = Some r.value
 
--- what a step finds on the lawful prices of the series' ladder, with the reference's price and the figures of its window
-abbrev pub finds : (ℤ → Bool) → Option ℤ → Series → Values → Step → Option ℤ
-finds lawful reference s v Auction = v.auction
-finds lawful reference s v Trade = v.trade
-finds lawful reference s v Quote = quoted lawful v.quote
-finds lawful reference s v Average = average lawful v.money v.lots
-finds lawful reference s v Theory = nearest_theory lawful s.theory
-finds lawful reference s v TheoryUp = above_theory lawful s.theory
-finds lawful reference s v Spread = less reference v.spread
-finds lawful reference s v PreviousSpread = less reference s.terms.previous_spread
-finds lawful reference s v Copy = reference
-finds lawful reference s v Previous = s.terms.previous_settlement
-finds lawful reference s v Ruling = ruled s.ruling
+-- the price that a step finds on the lawful prices of the series' ladder, with the reference's price and the figures of its window
+abbrev pub finds : (ℤ → Bool) → Option ℤ → Series → Figures → Step → Option ℤ
+finds lawful reference s f Auction = last_value f.auction
+finds lawful reference s f Trade = last_value f.trade
+finds lawful reference s f Quote = quoted lawful (last_value f.quote)
+finds lawful reference s f Average = average lawful f.money f.lots
+finds lawful reference s f Theory = nearest_theory lawful s.theory
+finds lawful reference s f TheoryUp = above_theory lawful s.theory
+finds lawful reference s f Spread = less reference (last_value f.spread)
+finds lawful reference s f PreviousSpread = less reference s.terms.previous_spread
+finds lawful reference s f Copy = reference
+finds lawful reference s f Previous = s.terms.previous_settlement
+finds lawful reference s f Ruling = ruled s.ruling
 
--- what a place of a row finds for a series
-abbrev pub found : (ℕ → ℤ → Bool) → Option ℤ → Station → Place → Option ℤ
-found lawful reference x p = finds (lawful x.series.terms.ladder) reference x.series (x.figures (window_number p.window)) p.step
+-- the time of the evidence that a step looks for, with the time of the reference's answer and the figures of its window: V has the
+-- last trade's, and T, U, P, B and D have none
+abbrev pub time_found : Option ℤ → Figures → Step → Option ℤ
+time_found reference f Auction = last_stamp f.auction
+time_found reference f Trade = last_stamp f.trade
+time_found reference f Quote = last_stamp f.quote
+time_found reference f Average = last_stamp f.trade
+time_found reference f Theory = None
+time_found reference f TheoryUp = None
+time_found reference f Spread = last_stamp f.spread
+time_found reference f PreviousSpread = None
+time_found reference f Copy = reference
+time_found reference f Previous = None
+time_found reference f Ruling = None
+
+-- a price, if one is found, with its time
+abbrev pub timed : Option ℤ → Option ℤ → Option TimedPrice
+timed None time = None
+timed (Some p) time = Some (record { price = p; time = time })
+
+-- the time of what a place of a row finds for a series
+abbrev pub place_time : Option ℤ → Station → Place → Option ℤ
+place_time reference x p = time_found reference (x.figures (window_number p.window)) p.step
+
+-- what a place of a row finds for a series, with the price and the time of the reference's answer
+abbrev pub found : (ℕ → ℤ → Bool) → Option ℤ → Option ℤ → Station → Place → Option TimedPrice
+found lawful price time x p =
+    timed (finds (lawful x.series.terms.ladder) price x.series (x.figures (window_number p.window)) p.step) (place_time time x p)

@@ -5,11 +5,11 @@ use Rattle.rows.specs.Codes.{at}
 use Rattle.rows.specs.declared.places.Edition.{Edition}
 use Rattle.rows.specs.declared.places.Place.{Place}
 use Rattle.rows.specs.declared.steps.Step as steps
-use Rattle.house.specs.Answers.{Answer, price_of, row_of, some_refers, station}
+use Rattle.house.specs.Answers.{Answer, price_of, row_of, some_refers, station, time_of}
 use Rattle.house.specs.ByPath.{MayAsk}
 use Rattle.house.specs.Calls.{State}
 use Rattle.house.specs.FindsPrice.{PlaceFinds}
-use Rattle.house.specs.Found.{Station}
+use Rattle.house.specs.Found.{Station, place_time}
 use Rattle.house.specs.Questions.{is_open, or_no_price}
 use Rattle.house.specs.Rolls.{is_listed}
 use Rattle.house.specs.declared.answers.Settlement.{Settlement}
@@ -25,7 +25,7 @@ abbrev pub is_first : Option Ruling → Bool
 is_first None = false
 is_first (Some r) = r.first
 
--- a settlement by a ruling with the first mark, which has place 0
+-- a settlement by a ruling with the first mark, which has place 0 and no time
 pub record RuledFirst (o : Option Ruling) (s : Settlement) : Type 0 where
   pub ruling : Ruling
   pub stands : o ≡ Some ruling
@@ -33,15 +33,18 @@ pub record RuledFirst (o : Option Ruling) (s : Settlement) : Type 0 where
   pub price : s.price ≡ ruling.value
   pub step : s.step ≡ steps.TheVariants.Ruling
   pub place : s.place ≡ 0
+  pub time : s.time ≡ None
 
--- a settlement at a position of the row: the place there has the step and finds the price, and no earlier place finds one
-pub record StandsAt (Finds : Place → ℤ → Type 0) (ps : List Place) (s : Settlement) : Type 0 where
+-- a settlement at a position of the row: the place there has the step, finds the price and has the time, and no earlier place finds
+-- a price
+pub record StandsAt (Finds : Place → ℤ → Type 0) (time_at : Place → Option ℤ) (ps : List Place) (s : Settlement) : Type 0 where
   pub position : ℕ
   pub place : Place
   pub stands : at ps position ≡ Some place
   pub counted : s.place ≡ position + 1
   pub step : place.step ≡ s.step
   pub price : Finds place s.price
+  pub time : s.time ≡ time_at place
   pub before : (k : ℕ) (q : Place) (p : ℤ) → k < position → at ps k ≡ Some q → Finds q p → ⊥
 
 -- whether there is a reference and it is refused
@@ -67,7 +70,8 @@ pub record Refused (lawful : ℕ → ℤ → Bool) (ed : Edition) (x : Station) 
 abbrev pub Settles : (ℕ → ℤ → Bool) → Edition → Station → Option Answer → Answer → Type 0
 Settles lawful ed x reference (Ok s) =
     RuledFirst x.series.ruling s
-    ⊎ ((is_first x.series.ruling ≡ false) × StandsAt (PlaceFinds lawful (price_of reference) x) (row_of x.series ed) s)
+    ⊎ ((is_first x.series.ruling ≡ false)
+    × StandsAt (PlaceFinds lawful (price_of reference) x) (place_time (time_of reference) x) (row_of x.series ed) s)
 Settles lawful ed x reference (Err origin) = Refused lawful ed x reference origin
 
 -- ---- along the path
@@ -101,7 +105,7 @@ pub record Explained (lawful : ℕ → ℤ → Bool) (ed : Edition) (s : State) 
 
 -- ---- one answer
 
--- any two answers of a series with the same stations behind it are equal, in price, step and place or in the origin; and so are any
+-- any two answers of a series with the same stations behind it are equal, in price, step, place and time or in the origin; and so are any
 -- two results of a question that are explained
 pub record OneAnswer : Type 0 where
   pub answer :

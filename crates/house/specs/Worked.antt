@@ -2,8 +2,9 @@
 use Rattle.std.specs.Prelude.{◌≡◌, ℕ, zero, suc, List, [], ◌∷◌, length, ℤ, pos, neg_ℤ, ◌+ℤ◌, Some, None, Ok, Err, Option, Result}
 use Rattle.book.specs.Ledgers.{fresh}
 use Rattle.book.specs.declared.days.Day.{Day}
+use Rattle.book.specs.declared.figures.Figures.{Figures}
+use Rattle.book.specs.declared.figures.Last.{Last}
 use Rattle.book.specs.declared.figures.Sides.{Sides}
-use Rattle.book.specs.declared.figures.Values.{Values}
 use Rattle.ladders.specs.Fractions.{ceiling}
 use Rattle.ladders.specs.Multiples.{multiple}
 use Rattle.ladders.specs.Rounding.{Above, Nearest}
@@ -42,7 +43,7 @@ RoundsTo ways.Above tick n d p = Above (multiple tick) (ceiling n d) p
 abbrev pub with_theory_only : ℤ → Series
 with_theory_only v = record { terms = blank.terms; theory = Some v; ruling = None }
 
-abbrev pub with_figures_only : Option ℤ → Option Sides → Values
+abbrev pub with_figures_only : Option (Last ℤ) → Option (Last Sides) → Figures
 with_figures_only spread quote = record {
   trade = None;
   auction = None;
@@ -52,13 +53,16 @@ with_figures_only spread quote = record {
   money = pos 0;
 }
 
--- that a step finds a price on the multiples of a tick where nothing is known but its matter
+-- that a step finds a price on the multiples of a tick where nothing is known but its matter, whatever the stamp of that
 abbrev pub FindsBy : ℕ → Step → Matter → ℤ → Type 0
 FindsBy tick step (matters.Theory v) p = FindsPrice (multiple tick) None (with_theory_only v) (with_figures_only None None) step p
 FindsBy tick step (matters.Quote bid ask) p =
-    FindsPrice (multiple tick) None blank (with_figures_only None (Some (record { bid = Some bid; ask = Some ask }))) step p
+    (t : ℤ)
+    → FindsPrice (multiple tick) None blank
+    (with_figures_only None (Some (record { stamp = t; value = record { bid = Some bid; ask = Some ask } }))) step p
 FindsBy tick step (matters.Spread reference spread) p =
-    FindsPrice (multiple tick) (Some reference) blank (with_figures_only (Some spread) None) step p
+    (t : ℤ)
+    → FindsPrice (multiple tick) (Some reference) blank (with_figures_only (Some (record { stamp = t; value = spread })) None) step p
 
 -- the series listed before; number 0 is the first
 abbrev pub number_before : ℕ → Option ℕ

@@ -1,7 +1,7 @@
 // What the house answers to the question for a price.
 use rows::steps::Step;
 
-/// A settlement price with the step that found it and the step's place in its row.
+/// A settlement price with the step that found it, the step's place in its row, and the time of the evidence.
 #[derive(Clone, Copy, PartialEq, Eq, Debug)]
 pub struct Settlement {
     /// In points.
@@ -10,4 +10,16 @@ pub struct Settlement {
     pub step: Step,
     /// The step's place in its row, counted from 1; 0 for a ruling with the first mark.
     pub place: u8,
+    /// The stamp of the evidence that decided, in seconds from the midnight that begins the evening session's date; none where the
+    /// step finds its price without an entry.
+    pub time: Option<i32>,
+}
+
+/// What a step finds: a price with the time of its evidence.
+#[derive(Clone, Copy, PartialEq, Eq, Debug)]
+pub struct TimedPrice {
+    /// In points.
+    pub price: i64,
+    /// The stamp of the evidence, if there is one, as in a settlement.
+    pub time: Option<i32>,
 }

@@ -1,19 +1,33 @@
 // What each step finds.
-#![tactic(auto, using(crate::proofs::Looked::previous_spread_within))]
+#![tactic(auto, using(crate::proofs::Looked::previous_spread_within, crate::proofs::Looked::last_spread_within))]
 
 ghost use Rattle.std.specs.Prelude.{◌≡◌, ◌≤◌, true, unsigned_abs};
-ghost use Rattle.book.specs.Bounds.{bounded, spread_if};
-ghost use Rattle.house.specs.Answers.{price_of};
-ghost use Rattle.house.specs.Found.{above_theory, average, finds, less, nearest_theory, quoted};
-ghost use Rattle.house.specs.Reach.{InReachBefore};
+ghost use Rattle.book.specs.Bounds.{bounded};
+ghost use Rattle.house.specs.Answers.{price_of, time_of};
+ghost use Rattle.house.specs.Found.{above_theory, average, finds, last_stamp, last_value, less, nearest_theory, quoted, time_found};
+ghost use Rattle.house.specs.Reach.{InReachBefore, spread_if};
 ghost use Rattle.ladders.specs.Values.{nearest_price};
 
-use crate::settling::{Question, price_of};
+use crate::settling::{Question, price_of, time_of};
 use book::books::Book;
-use book::figures::{Sides, Values};
+use book::figures::{Figures, Last, Sides};
 use ladders::rounding::nearest;
 use ladders::sets::LadderSet;
 use rows::steps::Step;
+
+// The value of a last figure, if there is one.
+fn last_value<V: Copy>(last: Option<Last<V>>) -> Option<V>
+    ensures { result ≡ last_value last }
+{
+    last.map(|last| last.value)
+}
+
+// The stamp of a last figure, if there is one.
+fn last_stamp<V: Copy>(last: Option<Last<V>>) -> Option<i32>
+    ensures { result ≡ last_stamp last }
+{
+    last.map(|last| last.stamp)
+}
 
 // The reference's price less a spread: near month less far month, so that the far month is the near less the spread. No method,
 // since a proof has of a parameter that it fits 8 bits, and of a field has not.
@@ -62,26 +76,45 @@ impl<L: LadderSet, B: Book> Question<'_, L, B> {
             .above(self.series.terms.ladder, self.series.theory?)
     }
 
-    // What a step finds, with the figures of the step's window.
-    pub(crate) fn find(&self, values: &Values, step: Step) -> Option<i64>
-        requires { bounded 30000 values.now ≡ true }
-        ensures { result ≡ finds (L.lawful self.now.set.now self.now.series.terms.ladder) (price_of self.now.reference) self.now.series values.now step }
+    // The price that a step finds, with the figures of the step's window.
+    pub(crate) fn find(&self, figures: &Figures, step: Step) -> Option<i64>
+        requires { bounded 30000 figures.now ≡ true }
+        ensures { result ≡ finds (L.lawful self.now.set.now self.now.series.terms.ladder) (price_of self.now.reference) self.now.series figures.now step }
     {
         let series = &self.series;
         let reference = price_of(self.reference);
         // A match, and no table of functions: the steps are closed, and look at different things.
         match step {
-            Step::Auction => values.auction.map(i64::from),
-            Step::Trade => values.trade.map(i64::from),
-            Step::Quote => self.quoted(values.quote),
-            Step::Average => self.average(values.money, values.lots),
+            Step::Auction => last_value(figures.auction).map(i64::from),
+            Step::Trade => last_value(figures.trade).map(i64::from),
+            Step::Quote => self.quoted(last_value(figures.quote)),
+            Step::Average => self.average(figures.money, figures.lots),
             Step::Theory => self.nearest_theory(),
             Step::TheoryUp => self.above_theory(),
-            Step::Spread => less(self.number, reference, values.spread.map(i64::from)),
+            Step::Spread => less(
+                self.number,
+                reference,
+                last_value(figures.spread).map(i64::from),
+            ),
             Step::PreviousSpread => less(self.number, reference, series.terms.previous_spread),
             Step::Copy => reference,
             Step::Previous => series.terms.previous_settlement,
             Step::Ruling => series.ruling.map(|ruling| ruling.value),
+        }
+    }
+
+    // The time of the evidence that a step looks for, with the figures of the step's window.
+    pub(crate) fn time(&self, figures: &Figures, step: Step) -> Option<i32>
+        ensures { result ≡ time_found (time_of self.now.reference) figures.now step }
+    {
+        match step {
+            Step::Auction => last_stamp(figures.auction),
+            Step::Trade | Step::Average => last_stamp(figures.trade),
+            Step::Quote => last_stamp(figures.quote),
+            Step::Spread => last_stamp(figures.spread),
+            Step::Copy => time_of(self.reference),
+            Step::Theory | Step::TheoryUp | Step::PreviousSpread | Step::Previous | Step::Ruling =>
+                None,
         }
     }
 }

@@ -3,12 +3,12 @@ ghost use Rattle.std.specs.Prelude.{◌≡◌, ℕ, ◌+◌, ◌<◌, true, None
 ghost use Rattle.std.proofs.Props.{props};
 ghost use Rattle.rows.specs.Chosen.{chosen};
 ghost use Rattle.rows.specs.Codes.{at};
-ghost use Rattle.house.specs.Answers.{answered, by_row, first_found, origin, origin_of, price_of, refers, row_of, some_refers};
+ghost use Rattle.house.specs.Answers.{answered, by_row, first_found, origin, origin_of, price_of, refers, row_of, some_refers, time_of};
 ghost use Rattle.house.specs.Found.{found};
-ghost use Rattle.house.specs.Reach.{AnswerInReach, FoundInReach, InReach, InReachBefore};
+ghost use Rattle.house.specs.Reach.{AnswerInReach, FoundInReach, InReachBefore, PriceInReach};
 ghost use Rattle.house.specs.Series.{lawful_series};
 
-use crate::answers::Settlement;
+use crate::answers::{Settlement, TimedPrice};
 use crate::series::{Ruling, Series};
 use book::books::Book;
 use ladders::sets::LadderSet;
@@ -45,14 +45,15 @@ impl<L, B> Clone for Question<'_, L, B> {
 }
 
 // A settlement by the place at a position; places are counted from 1.
-fn settlement_at(price: i64, step: Step, position: usize) -> Settlement
+fn settlement_at(found: TimedPrice, step: Step, position: usize) -> Settlement
     requires { position < 6 }
-    ensures { result ≡ record { price = price; step = step; place = position + 1 } }
+    ensures { result ≡ record { price = found.price; step = step; place = position + 1; time = found.time } }
 {
     Settlement {
-        price,
+        price: found.price,
         step,
         place: position as u8 + 1,
+        time: found.time,
     }
 }
 
@@ -75,6 +76,13 @@ pub(crate) fn price_of(reference: Option<Answer>) -> Option<i64>
     ensures { result ≡ price_of reference }
 {
     Some(reference?.ok()?.price)
+}
+
+// The time of the reference's answer, where there is a reference and it settles.
+pub(crate) fn time_of(reference: Option<Answer>) -> Option<i32>
+    ensures { result ≡ time_of reference }
+{
+    reference?.ok()?.time
 }
 
 // The reference's origin, where there is a reference and it is refused; else the series itself.
@@ -109,27 +117,32 @@ impl<L: LadderSet, B: Book> Question<'_, L, B> {
         place_at(self.series.terms.family, self.choice(), position)
     }
 
-    // What a place of the row finds.
-    fn look(&self, place: Place) -> Option<i64>
-        ensures value { result ≡ found (L.lawful self.now.set.now) (price_of self.now.reference) (station_in B.meaning self.now) place }
-        ensures reach { InReach self.now.number result }
+    // What a place of the row finds: a price, and the time of its evidence.
+    fn look(&self, place: Place) -> Option<TimedPrice>
+        ensures value { let reference = self.now.reference in
+            result ≡ found (L.lawful self.now.set.now) (price_of reference) (time_of reference) (station_in B.meaning self.now) place }
+        ensures reach { PriceInReach self.now.number result }
     {
         // A step that looks in no window reads none of the figures; no window is numbered 0.
-        let values = self.book.figures(self.number, place.window.unwrap_or(0));
-        self.find(&values, place.step)
+        let figures = self.book.figures(self.number, place.window.unwrap_or(0));
+        let price = self.find(&figures, place.step)?;
+        let time = self.time(&figures, place.step);
+        Some(TimedPrice { price, time })
     }
 
     // The first place of the row that finds a price.
     fn first_found(&self) -> Option<Settlement>
-        ensures value { result ≡ first_found (found (L.lawful self.now.set.now) (price_of self.now.reference) (station_in B.meaning self.now)) 1 (row_of self.now.series self.now.edition) }
+        ensures value { let reference = self.now.reference in
+            let find = found (L.lawful self.now.set.now) (price_of reference) (time_of reference) (station_in B.meaning self.now) in
+            result ≡ first_found find 1 (row_of self.now.series self.now.edition) }
         ensures reach { FoundInReach self.now.number result }
     {
         // A loop, since it ends at an empty place as well as at a price; the position is told with the price. The places after
         // that price are not looked up.
         for position in 0..PLACES {
             let place = self.place_at(position)?;
-            if let Some(price) = self.look(place) {
-                return Some(settlement_at(price, place.step, position));
+            if let Some(found) = self.look(place) {
+                return Some(settlement_at(found, place.step, position));
             }
         }
         None
@@ -178,6 +191,7 @@ impl<L: LadderSet, B: Book> Question<'_, L, B> {
                 price: ruling.value,
                 step: Step::Ruling,
                 place: 0,
+                time: None,
             }),
             _ => self.by_row(),
         }

@@ -31,7 +31,8 @@ brief_mag (negsuc n) h = omega arith
 signed_apart : (y z : ℤ) → Brief y → Brief z → signed_decimal y ≡ signed_decimal z → y ≡ z
 signed_apart y z h k = signed_decimal_injective y z (brief_mag y h) (brief_mag z k)
 
-signed_if_apart : (y z : Option ℤ) → BriefIf y → BriefIf z → signed_if y ≡ signed_if z → y ≡ z
+-- no two numbers, missing ones too, are written alike
+pub signed_if_apart : (y z : Option ℤ) → BriefIf y → BriefIf z → signed_if y ≡ signed_if z → y ≡ z
 signed_if_apart None None h k e = refl
 signed_if_apart None (Some z) h k e = absurd (lone_minus z k (sym e))
 signed_if_apart (Some y) None h k e = absurd (lone_minus y h e)

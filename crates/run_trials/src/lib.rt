@@ -67,8 +67,18 @@ mod tests {
         }
     }
 
-    fn settlement(price: i64, step: Step, place: u8) -> Result<Settlement, HouseFault> {
-        Ok(Settlement { price, step, place })
+    fn settlement(
+        price: i64,
+        step: Step,
+        place: u8,
+        time: Option<i32>,
+    ) -> Result<Settlement, HouseFault> {
+        Ok(Settlement {
+            price,
+            step,
+            place,
+            time,
+        })
     }
 
     // Both runs on ticks of 10, and the question for the close of a series after each.
@@ -115,7 +125,7 @@ mod tests {
             CLOSE,
         ];
         let (first, second) = both(&calls, &other_calls, 0)?;
-        assert_eq!(rt; first, settlement(50, Step::Trade, 2));
+        assert_eq!(rt; first, settlement(50, Step::Trade, 2, Some(140_000)));
         assert_eq!(rt; second, first);
         Ok(())
     }
@@ -126,8 +136,8 @@ mod tests {
         let calls = [list(9, None), list(8, Some(0)), theory(104), OPEN, CLOSE];
         let other_calls = [list(9, None), list(8, Some(0)), OPEN, theory(105), CLOSE];
         let (first, second) = both(&calls, &other_calls, 1)?;
-        assert_eq!(rt; first, settlement(100, Step::Copy, 1));
-        assert_eq!(rt; second, settlement(110, Step::Copy, 1));
+        assert_eq!(rt; first, settlement(100, Step::Copy, 1, None));
+        assert_eq!(rt; second, settlement(110, Step::Copy, 1, None));
         Ok(())
     }
 
@@ -146,8 +156,8 @@ mod tests {
         let calls = [list(10, None), OPEN, quote(120), trade(0, 90), CLOSE];
         let other_calls = [list(10, None), OPEN, quote(130), trade(0, 110), CLOSE];
         let (first, second) = both(&calls, &other_calls, 0)?;
-        assert_eq!(rt; first, settlement(110, Step::Quote, 2));
-        assert_eq!(rt; second, settlement(120, Step::Quote, 2));
+        assert_eq!(rt; first, settlement(110, Step::Quote, 2, Some(140_000)));
+        assert_eq!(rt; second, settlement(120, Step::Quote, 2, Some(140_000)));
         Ok(())
     }
 
@@ -165,8 +175,8 @@ mod tests {
             CLOSE,
         ];
         let (first, second) = both(&calls, &other_calls, 0)?;
-        assert_eq!(rt; first, settlement(50, Step::Trade, 3));
-        assert_eq!(rt; second, settlement(80, Step::Auction, 1));
+        assert_eq!(rt; first, settlement(50, Step::Trade, 3, Some(140_000)));
+        assert_eq!(rt; second, settlement(80, Step::Auction, 1, Some(140_000)));
         Ok(())
     }
 
@@ -177,8 +187,8 @@ mod tests {
         let calls = [list(1, None), theory(100), OPEN, CLOSE];
         let other_calls = [list(1, None), theory(100), OPEN, auction, CLOSE];
         let (first, second) = both(&calls, &other_calls, 0)?;
-        assert_eq!(rt; first, settlement(100, Step::Theory, 3));
-        assert_eq!(rt; second, settlement(80, Step::Auction, 1));
+        assert_eq!(rt; first, settlement(100, Step::Theory, 3, None));
+        assert_eq!(rt; second, settlement(80, Step::Auction, 1, Some(140_000)));
         Ok(())
     }
 
@@ -204,13 +214,13 @@ mod tests {
             calls: &other_calls,
         };
         let (one, two) = compare(first, second, 0, Edition::Close);
-        assert_eq!(rt; one, settlement(50, Step::Trade, 2));
+        assert_eq!(rt; one, settlement(50, Step::Trade, 2, Some(140_000)));
         assert_eq!(rt; two, Err(HouseFault::WrongPhase));
         assert_eq!(rt; house.settle(&board, 0, Edition::Close), one);
         assert_eq!(rt; (board.count(), tape.count()), (1, 2));
         assert_eq!(rt; other.ring(Bell::Close), Ok(()));
         let later = other.settle(&tape, 0, Edition::Close);
-        assert_eq!(rt; later, settlement(60, Step::Trade, 2));
+        assert_eq!(rt; later, settlement(60, Step::Trade, 2, Some(140_000)));
         Ok(())
     }
 

@@ -4,7 +4,7 @@ use lib.Signed.{le_z}
 use Rattle.std.proofs.lemmas.Int.{ints}
 use Rattle.std.proofs.lemmas.Bool.{and_parts, cond_both, true≢false}
 use Rattle.book.specs.Entries.{allowed, kind_lawful, lots_lawful, price_lawful}
-use Rattle.book.specs.Figures.{concerns, empty, entered_in, latest, with_entry, unstamped, traded, values, with_auction}
+use Rattle.book.specs.Figures.{concerns, empty, entered_in, latest, with_entry, traded, with_auction}
 use Rattle.book.specs.Records.{every, figures_of}
 use Rattle.book.specs.Windows.{edges}
 use Rattle.book.specs.declared.days.Day.{Day}
@@ -13,7 +13,6 @@ use Rattle.book.specs.declared.entries.Kind.{Kind}
 use Rattle.book.specs.declared.entries.Kind.TheVariants.{Trade, Auction, Leg, Spread, Quote}
 use Rattle.book.specs.declared.figures.Figures.{Figures}
 use Rattle.book.specs.declared.figures.Last.{Last}
-use Rattle.book.specs.declared.figures.Values.{Values}
 use Rattle.book.specs.Ranges.{allowed_kind}
 use Rattle.runs.specs.Added.{Among, is_addition}
 use Rattle.runs.specs.Relations.{Relation}
@@ -26,33 +25,12 @@ use Rattle.runs.proofs.PathFigures.{every_on_path, related_figures}
 abbrev pub StillThere : {V : Type 0} → Relation (Option V)
 StillThere v w = is_some v ≡ true → is_some w ≡ true
 
-pub record ValuesMore (v w : Values) : Type 0 where
-  pub trade : StillThere v.trade w.trade
-  pub auction : StillThere v.auction w.auction
-  pub spread : StillThere v.spread w.spread
-  pub quote : v.quote ≡ w.quote
-  pub lots : v.lots ≤ℤ w.lots
-
-record FiguresMore (f g : Figures) : Type 0 where
-  trade : StillThere f.trade g.trade
-  auction : StillThere f.auction g.auction
-  spread : StillThere f.spread g.spread
-  quote : f.quote ≡ g.quote
-  lots : f.lots ≤ℤ g.lots
-
-unstamped_still : {V : Type 0} (o p : Option (Last V)) → StillThere o p → StillThere (unstamped o) (unstamped p)
-unstamped_still None p h there = absurd (true≢false (sym there))
-unstamped_still (Some o) None h there = h refl
-unstamped_still (Some o) (Some p) h there = refl
-
-more_values : (f g : Figures) → FiguresMore f g → ValuesMore (values f) (values g)
-more_values f g m = record {
-  trade = unstamped_still f.trade g.trade m.trade;
-  auction = unstamped_still f.auction g.auction m.auction;
-  spread = unstamped_still f.spread g.spread m.spread;
-  quote = ap unstamped m.quote;
-  lots = m.lots;
-}
+pub record FiguresMore (f g : Figures) : Type 0 where
+  pub trade : StillThere f.trade g.trade
+  pub auction : StillThere f.auction g.auction
+  pub spread : StillThere f.spread g.spread
+  pub quote : f.quote ≡ g.quote
+  pub lots : f.lots ≤ℤ g.lots
 
 -- ---- one more entry
 
@@ -174,9 +152,8 @@ more_empty = record {
 -- entries added on a path take no figure of its series away, change no quote, and leave no fewer lots
 pub more_figures : (d : Day) (path : List ℕ) (es fs : List Entry) (s w : ℕ) → every (allowed d) fs ≡ true
     → Among (entries_on path es) (entries_on path fs) → on_path path (pos s) ≡ true
-    → ValuesMore (values (figures_of d es s w)) (values (figures_of d fs s w))
+    → FiguresMore (figures_of d es s w) (figures_of d fs s w)
 more_figures d path es fs s w h among on =
-    more_values (figures_of d es s w) (figures_of d fs s w)
-    (related_figures d path es fs s w FiguresMore on
+    related_figures d path es fs s w FiguresMore on
     (more_fold d s (edges d w) empty empty (entries_on path es) (entries_on path fs)
-    (every_on_path (allowed d) path fs h) among more_empty))
+    (every_on_path (allowed d) path fs h) among more_empty)

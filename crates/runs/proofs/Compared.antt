@@ -5,7 +5,7 @@ use Rattle.std.specs.List.{AllZip, AllByRecursion}
 use Rattle.std.proofs.lemmas.Bool.{eq-eqb, or_right}
 use Rattle.std.proofs.lemmas.List.Elements.{same_from_all_zip}
 use Rattle.book.specs.Entries.{allowed}
-use Rattle.book.specs.Figures.{empty, is_series, values}
+use Rattle.book.specs.Figures.{empty, is_series}
 use Rattle.book.specs.Ledgers.{Ledger, fresh}
 use Rattle.book.specs.Records.{every, figures_of}
 use Rattle.book.specs.Windows.{edges}
@@ -47,15 +47,15 @@ use Rattle.runs.proofs.ToldRuns.{told_from_new}
 -- ---- stations by the calls taken
 
 -- the station of a series on a day
-abbrev station_by_calls : Day → List Call → ℕ → Station
-station_by_calls d xs n = record { number = n; series = series_after xs n; figures = λ w. values (figures_of d (entries xs) n w) }
+abbrev pub station_by_calls : Day → List Call → ℕ → Station
+station_by_calls d xs n = record { number = n; series = series_after xs n; figures = figures_of d (entries xs) n }
 
-abbrev answer_by_calls : (ℕ → ℤ → Bool) → Edition → Day → List Call → ℕ → Answer
+abbrev pub answer_by_calls : (ℕ → ℤ → Bool) → Edition → Day → List Call → ℕ → Answer
 answer_by_calls P ed d xs n = path_answer P ed (station_by_calls d xs n) (map (station_by_calls d xs) (references (series_after xs) n))
 
 module _ (d : Day) (k : ℕ) (xs : List Call) (w : World) (told : Told d k xs w) where
   -- what the house would answer
-  answer_is_by_calls : (P : ℕ → ℤ → Bool) (ed : Edition) (n : ℕ) → answer_at P ed w.state w.book n ≡ answer_by_calls P ed d xs n
+  pub answer_is_by_calls : (P : ℕ → ℤ → Bool) (ed : Edition) (n : ℕ) → answer_at P ed w.state w.book n ≡ answer_by_calls P ed d xs n
   answer_is_by_calls P ed n = λ i.
       path_answer P ed (station_of n (told.roll.series n i) (told.book.records i))
       (map (λ r. station_of r (told.roll.series r i) (told.book.records i)) (references (λ r. told.roll.series r i) n))
@@ -169,7 +169,7 @@ module _ (a b : RunMeaning) (n : ℤ) (ed : Edition) where
       (λ d path xs ys k h j es on s. λ i. record {
         number = k;
         series = s i;
-        figures = λ v. values (same_figures d path (entries xs) (entries ys) k v es on i);
+        figures = λ v. same_figures d path (entries xs) (entries ys) k v es on i;
       })
       (λ x y xs ys l m ps.
       let behind = same_from_all_zip ◌≡◌ xs ys ps.1 (λ x y same. sym same) in

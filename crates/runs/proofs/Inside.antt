@@ -6,7 +6,7 @@ use Rattle.std.proofs.lemmas.Int.{ints}
 use Rattle.std.proofs.lemmas.Bool.{and_from}
 use Rattle.book.specs.Bounds.{bounded}
 use Rattle.book.specs.Entries.{price_lawful}
-use Rattle.book.specs.declared.figures.Values.{Values}
+use Rattle.book.specs.declared.figures.Figures.{Figures}
 use Rattle.book.specs.Growth.{parts}
 use Rattle.ladders.specs.Fractions.{inside}
 use Rattle.ladders.specs.Orders.{within_range}
@@ -31,5 +31,5 @@ within_lots m d h =
     ∙ and-true (ltb 0 d)
 
 -- there is an average wherever there are lots
-pub average_inside : (k : ℕ) (v : Values) → bounded k v ≡ true → inside v.money (nat_abs v.lots) ≡ ltb 0 (nat_abs v.lots)
-average_inside k v h = within_lots v.money (nat_abs v.lots) (parts k v h).money_bound
+pub average_inside : (k : ℕ) (f : Figures) → bounded k f ≡ true → inside f.money (nat_abs f.lots) ≡ ltb 0 (nat_abs f.lots)
+average_inside k f h = within_lots f.money (nat_abs f.lots) (parts k f h).money_bound

@@ -9,3 +9,4 @@ pub mod OneCall
 pub mod ToldRuns
 mod StoredEntries
 pub mod Compared
+mod Times

@@ -6,7 +6,7 @@ use Rattle.std.specs.List.{AllZip}
 use Rattle.std.proofs.lemmas.Int.{ints}
 use Rattle.std.proofs.lemmas.Bool.{and_parts, true≢false}
 use Rattle.book.specs.Entries.{allowed, kind_lawful, lots_lawful, price_lawful}
-use Rattle.book.specs.Figures.{concerns, empty, entered_in, is_series, latest, with_entry, unstamped, traded, values, with_auction}
+use Rattle.book.specs.Figures.{concerns, empty, entered_in, is_series, latest, with_entry, traded, with_auction}
 use Rattle.book.specs.Records.{every, figures_of}
 use Rattle.book.specs.Windows.{edges, holds}
 use Rattle.book.specs.declared.days.Day.{Day}
@@ -16,7 +16,6 @@ use Rattle.book.specs.declared.entries.Kind.TheVariants.{Trade, Auction, Leg, Sp
 use Rattle.book.specs.declared.figures.Figures.{Figures}
 use Rattle.book.specs.declared.figures.Last.{Last}
 use Rattle.book.specs.declared.figures.Sides.{Sides}
-use Rattle.book.specs.declared.figures.Values.{Values}
 use Rattle.book.specs.Ranges.{allowed_kind}
 use Rattle.runs.specs.PathEntries.{entries_on, on_path}
 use Rattle.runs.specs.Raised.{EntryRaised, KindBy}
@@ -36,42 +35,17 @@ pub record SidesRaised (q r : Sides) : Type 0 where
   pub bid : ValueRaised q.bid r.bid
   pub ask : ValueRaised q.ask r.ask
 
-pub record ValuesRaised (v w : Values) : Type 0 where
-  pub trade : ValueRaised v.trade w.trade
-  pub auction : ValueRaised v.auction w.auction
-  pub spread : v.spread ≡ w.spread
-  pub quote : Matched SidesRaised v.quote w.quote
-  pub lots : v.lots ≡ w.lots
-  pub money : v.money ≤ℤ w.money
-
 -- last figures of the same stamp, or none
-abbrev LastMatched : {V : Type 0} → Relation V → Relation (Option (Last V))
+abbrev pub LastMatched : {V : Type 0} → Relation V → Relation (Option (Last V))
 LastMatched R o p = Matched (λ l m. (l.stamp ≡ m.stamp) × R l.value m.value) o p
 
-record FiguresRaised (f g : Figures) : Type 0 where
-  trade : LastMatched ◌≤ℤ◌ f.trade g.trade
-  auction : LastMatched ◌≤ℤ◌ f.auction g.auction
-  spread : f.spread ≡ g.spread
-  quote : LastMatched SidesRaised f.quote g.quote
-  lots : f.lots ≡ g.lots
-  money : f.money ≤ℤ g.money
-
-unstamped_matched : {V : Type 0} (R : Relation V) (o p : Option (Last V)) → LastMatched R o p
-    → Matched R (unstamped o) (unstamped p)
-unstamped_matched R None None h = tt
-unstamped_matched R None (Some p) h = h
-unstamped_matched R (Some o) None h = h
-unstamped_matched R (Some o) (Some p) h = h.1
-
-raised_values : (f g : Figures) → FiguresRaised f g → ValuesRaised (values f) (values g)
-raised_values f g r = record {
-  trade = unstamped_matched ◌≤ℤ◌ f.trade g.trade r.trade;
-  auction = unstamped_matched ◌≤ℤ◌ f.auction g.auction r.auction;
-  spread = ap unstamped r.spread;
-  quote = unstamped_matched SidesRaised f.quote g.quote r.quote;
-  lots = r.lots;
-  money = r.money;
-}
+pub record FiguresRaised (f g : Figures) : Type 0 where
+  pub trade : LastMatched ◌≤ℤ◌ f.trade g.trade
+  pub auction : LastMatched ◌≤ℤ◌ f.auction g.auction
+  pub spread : f.spread ≡ g.spread
+  pub quote : LastMatched SidesRaised f.quote g.quote
+  pub lots : f.lots ≡ g.lots
+  pub money : f.money ≤ℤ g.money
 
 -- ---- one more entry
 
@@ -180,9 +154,8 @@ raised_empty = record { trade = tt; auction = tt; spread = refl; quote = tt; lot
 -- entries raised on a path raise the figures of its series
 pub raised_figures : (d : Day) (path : List ℕ) (es fs : List Entry) (s w : ℕ) → every (allowed d) es ≡ true
     → AllZip EntryRaised (entries_on path es) (entries_on path fs) → on_path path (pos s) ≡ true
-    → ValuesRaised (values (figures_of d es s w)) (values (figures_of d fs s w))
+    → FiguresRaised (figures_of d es s w) (figures_of d fs s w)
 raised_figures d path es fs s w h rise on =
-    raised_values (figures_of d es s w) (figures_of d fs s w)
-    (related_figures d path es fs s w FiguresRaised on
+    related_figures d path es fs s w FiguresRaised on
     (raised_fold d s (edges d w) empty empty (entries_on path es) (entries_on path fs)
-    (every_on_path (allowed d) path es h) rise raised_empty))
+    (every_on_path (allowed d) path es h) rise raised_empty)

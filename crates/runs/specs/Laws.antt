@@ -107,9 +107,9 @@ pub record PathRelated (OnSeries : Relation Series) (OnEntries : Relation (List 
 
 -- ---- how the answers of two runs compare
 
--- both settle, by the same step at the same place and the second at no lower price; or both are refused alike
+-- both settle, by the same step at the same place and time and the second at no lower price; or both are refused alike
 abbrev pub NotLower : {E : Type 0} → Relation (Result Settlement E)
-NotLower (Ok s) (Ok t) = (s.step ≡ t.step) × (s.place ≡ t.place) × (s.price ≤ℤ t.price)
+NotLower (Ok s) (Ok t) = (s.step ≡ t.step) × (s.place ≡ t.place) × (s.time ≡ t.time) × (s.price ≤ℤ t.price)
 NotLower (Ok s) (Err p) = ⊥
 NotLower (Err o) (Ok t) = ⊥
 NotLower (Err o) (Err p) = o ≡ p
@@ -132,12 +132,12 @@ Law OnSeries OnEntries OnAnswers Premise a b n x y =
 abbrev pub SameLaw : Type 0 → RunMeaning → RunMeaning → ℤ → Relation Outcome
 SameLaw = Law ◌≡◌ ◌≡◌ ◌≡◌
 
--- where only prices differ, and none is lower in the second, step, place and origin stay, and no price settled is lower
+-- where only prices differ, and none is lower in the second, step, place, time and origin stay, and no price settled is lower
 abbrev pub RaisedLaw : Type 0 → RunMeaning → RunMeaning → ℤ → Relation Outcome
 RaisedLaw = Law SeriesRaised (AllZip EntryRaised) NotLower
 
 -- where the first entries stand among the second in their order, and the rest there are trades, auctions or spreads, what
--- settled settles, no later in its row
+-- settled settles, no later in its row; of times it says nothing
 abbrev pub MoreLaw : Type 0 → RunMeaning → RunMeaning → ℤ → Relation Outcome
 MoreLaw = Law ◌≡◌ Among NoLater
 

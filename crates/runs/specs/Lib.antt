@@ -7,3 +7,4 @@ pub mod ByCalls
 pub mod Told
 pub mod Stored
 pub mod Laws
+pub mod Times

@@ -6,6 +6,7 @@ ghost use Rattle.calls.specs.Worlds.{new_world, world};
 ghost use Rattle.runs.specs.ByCalls.{entries};
 ghost use Rattle.runs.specs.Laws.{Alike, Comparable, EndTold, Laws, answer_in, calls_taken_in, end_memory, end_world, new_run, run_in};
 ghost use Rattle.runs.specs.Stored.{filled};
+ghost use Rattle.runs.specs.Times.{AnswerTimed};
 
 use crate::running::run;
 use board::boards::Board;
@@ -85,10 +86,13 @@ fn ask_both<K: LadderSet, J: Book, L: LadderSet, B: Book>(
 ///
 /// If the runs can be compared (`Comparable`: new houses on empty books of one day, ladder sets of one meaning, and in both, by the
 /// calls taken, the series listed and the edition open), then
-/// - the same evidence on the series' path gives the same answer;
-/// - if only prices differ there, and none is lower in the second run, both settle on the same step and place, the second at
+/// - the same evidence on the series' path gives the same answer, its time too;
+/// - if only prices differ there, and none is lower in the second run, both settle on the same step, place and time, the second at
 ///   no lower a price, or both are refused from the same origin;
 /// - if only trades, auctions or spreads were added there, what settled settles, at the same place or an earlier one.
+///
+/// In a run from a new house and an empty book the time of an answer is the stamp of the entry that stands last among those that the
+/// step which decided looks for (`AnswerTimed`).
 ///
 /// An error in an answer is the fault for which that run's house refuses the question: the edition is not open, the series is
 /// not listed, or no step finds a price.
@@ -105,6 +109,10 @@ pub fn compare<K: LadderSet, J: Book, L: LadderSet, B: Book>(
         let second_run = run_in L.size L.lawful B.meaning second.entry in
         (d : Day) (k : ℕ) → (first_run.start ≡ new_world d k → EndTold d k first_run)
         × (second_run.start ≡ new_world d k → EndTold d k second_run) }
+    ensures times { let first_run = run_in K.size K.lawful J.meaning first.entry in
+        let second_run = run_in L.size L.lawful B.meaning second.entry in
+        (d : Day) (k : ℕ) → (first_run.start ≡ new_world d k → AnswerTimed d first_run series edition result.0)
+        × (second_run.start ≡ new_world d k → AnswerTimed d second_run series edition result.1) }
     ensures first_after { world first.exit.0.now (J.meaning first.exit.1.0.now)
         ≡ end_world (run_in K.size K.lawful J.meaning first.entry) }
     ensures second_after { world second.exit.0.now (B.meaning second.exit.1.0.now)
@@ -140,6 +148,9 @@ pub fn compare_makes<K: LadderSet + Drop, L: LadderSet + Drop>(
     ensures told { let places = min (length slots.old) 30000 in
         EndTold day (min capacity 30000) (new_run K.size K.lawful set day (min capacity 30000) calls.now)
         × EndTold day places (new_run L.size L.lawful other_set day places other_calls.now) }
+    ensures times { let places = min (length slots.old) 30000 in
+        AnswerTimed day (new_run K.size K.lawful set day (min capacity 30000) calls.now) series edition result.0
+        × AnswerTimed day (new_run L.size L.lawful other_set day places other_calls.now) series edition result.1 }
     ensures slots { let second_run = new_run L.size L.lawful other_set day (min (length slots.old) 30000) other_calls.now in
         slots.new ≡ filled (entries (calls_taken_in second_run)) slots.old }
 {

@@ -13,7 +13,7 @@ use book::books::{Book, MOST, Reusable, admit};
 use book::days::Day;
 use book::entries::{Entry, Kind};
 use book::faults::BookFault;
-use book::figures::Values;
+use book::figures::Figures;
 use book::lawful::LawfulDay;
 use book::windows::edges;
 
@@ -77,9 +77,9 @@ impl Book for Tape<'_> {
         Ok(())
     }
 
-    fn figures(&self, series: u8, window: u8) -> Values {
+    fn figures(&self, series: u8, window: u8) -> Figures {
         let edges = edges(&self.day, window);
-        scan(&self.slots[..self.count], series, edges).values()
+        scan(&self.slots[..self.count], series, edges)
     }
 
     fn day(&self) -> Day {

@@ -4,7 +4,7 @@ use book::books::Book;
 use book::days::Day;
 use book::entries::{Entry, Kind};
 use book::faults::BookFault;
-use book::figures::Sides;
+use book::figures::{Last, Sides};
 use book::lawful::LawfulDay;
 use book::windows::edges;
 use std::process::Abort;
@@ -31,6 +31,10 @@ fn trade(stamp: i64, price: i64) -> Entry {
     entry(stamp, Kind::Trade { price, lots: 1 })
 }
 
+fn last<V>(stamp: i32, value: V) -> Option<Last<V>> {
+    Some(Last { stamp, value })
+}
+
 fn quote(stamp: i64, bid: Option<i64>, ask: Option<i64>) -> Entry {
     entry(stamp, Kind::Quote { bid, ask })
 }
@@ -39,10 +43,10 @@ fn quote(stamp: i64, bid: Option<i64>, ask: Option<i64>) -> Entry {
 fn last_trade<B: Book>(rt: &impl Abort, book: &mut B) -> Result<(), Fail> {
     book.take(trade(140_000, 10))?;
     book.take(trade(139_999, 20))?;
-    assert_eq!(rt; book.figures(0, 1).trade, Some(10));
+    assert_eq!(rt; book.figures(0, 1).trade, last(140_000, 10));
     book.take(trade(140_000, 30))?;
     book.take(entry(140_001, Kind::Leg { price: 40, lots: 1 }))?;
-    assert_eq!(rt; book.figures(0, 1).trade, Some(30));
+    assert_eq!(rt; book.figures(0, 1).trade, last(140_000, 30));
     assert_eq!(rt; book.figures(0, 1).money, 60);
     Ok(())
 }
@@ -52,18 +56,24 @@ fn last_quote<B: Book>(rt: &impl Abort, book: &mut B) -> Result<(), Fail> {
     book.take(quote(140_000, Some(5), None))?;
     assert_eq!(rt;
         book.figures(0, 1).quote,
-        Some(Sides {
-            bid: Some(5),
-            ask: None,
-        })
+        last(
+            140_000,
+            Sides {
+                bid: Some(5),
+                ask: None,
+            }
+        )
     );
     book.take(quote(140_000, None, None))?;
     assert_eq!(rt;
         book.figures(0, 1).quote,
-        Some(Sides {
-            bid: None,
-            ask: None,
-        })
+        last(
+            140_000,
+            Sides {
+                bid: None,
+                ask: None,
+            }
+        )
     );
     assert_eq!(rt;
         book.take(quote(140_001, Some(5), Some(5))),
@@ -81,7 +91,10 @@ fn on_edges<B: Book>(rt: &impl Abort, book: &mut B, window: u8) -> Result<(), Fa
     book.take(trade(last, 3))?;
     let _ = book.take(trade(last.saturating_add(1), 4));
     assert_eq!(rt; book.figures(0, window).lots, 2);
-    assert_eq!(rt; book.figures(0, window).trade, Some(3));
+    assert_eq!(rt;
+        book.figures(0, window).trade.map(|last| last.value),
+        Some(3)
+    );
     Ok(())
 }
 
@@ -90,7 +103,7 @@ fn filled<B: Book>(rt: &impl Abort, book: &mut B) -> Result<(), Fail> {
     book.take(trade(140_000, 10))?;
     assert_eq!(rt; book.take(trade(140_000, 20)), Err(BookFault::Full));
     assert_eq!(rt; book.take(trade(143_101, 20)), Err(BookFault::BeyondLimits));
-    assert_eq!(rt; book.figures(0, 1).trade, Some(10));
+    assert_eq!(rt; book.figures(0, 1).trade, last(140_000, 10));
     Ok(())
 }
 

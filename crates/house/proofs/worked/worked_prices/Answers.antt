@@ -22,8 +22,8 @@ all_hold =
     & (negsuc 15, refl, (refl, nearest_by 10 (negsuc 15) 1 (negsuc 19) (omega arith) (omega arith) refl))
     & (pos 101, refl, refl, above_by 10 (pos 101) (pos 110) (omega arith) refl)
     & (negsuc 100, refl, refl, above_by 10 (negsuc 100) (negsuc 99) (omega arith) refl)
-    & (pos 100, pos 130, refl, (refl, nearest_by 10 (pos 230) 2 (pos 120) (omega arith) (omega arith) refl))
-    & (pos 145200, negsuc 29, refl, refl, refl)
+    & (λ t. (pos 100, pos 130, refl, (refl, nearest_by 10 (pos 230) 2 (pos 120) (omega arith) (omega arith) refl)))
+    & (λ t. (pos 145200, negsuc 29, refl, refl, refl))
     & (λ d capacity. (refl, refl))
     & tt
 

@@ -1,4 +1,4 @@
-use Rattle.std.proofs.Common.{◌≤◌, ℤ, nat_abs, Ok, sym, subst, w64, SFits, rules}
+use Rattle.std.proofs.Common.{◌≤◌, ℤ, nat_abs, None, Ok, sym, subst, w64, SFits, rules}
 use Rattle.std.proofs.lemmas.Int.{to_z-of_z}
 use Rattle.rows.specs.declared.steps.Step.TheVariants.{Ruling}
 use Rattle.house.specs.Reach.{reach}
@@ -10,5 +10,5 @@ returns-in-Some-clause-reach g c =
     let a = c.args.self.now in
     let r = c.in-Some.ruling in
     let fits : SFits w64 r.value = search rules in
-    let once = ruled_at_once a.number a.series r (Ok (record { price = r.value; step = Ruling; place = 0 })) a.lawful c.in-Some.is (sym c.if-comes_first.ensures) in
+    let once = ruled_at_once a.number a.series r (Ok (record { price = r.value; step = Ruling; place = 0; time = None })) a.lawful c.in-Some.is (sym c.if-comes_first.ensures) in
     subst (λ (z : ℤ). nat_abs z ≤ reach a.number) (sym (to_z-of_z w64 r.value fits)) once.1

@@ -1,5 +1,4 @@
-use Rattle.std.proofs.Common.{◌≡◌, ◌+◌, Some, sym, ap, ◌∙◌, arith, rules, w64, SFits}
-use Rattle.std.proofs.lemmas.Int.{to_z-of_z}
+use Rattle.std.proofs.Common.{Some, sym, ap, ◌∙◌, arith}
 use Rattle.rows.proofs.Table.{row_short}
 use Rattle.rows.specs.Chosen.{chosen}
 use Rattle.house.proofs.RowWalk.{found_here, found_later, found_not, found_nowhere}
@@ -14,10 +13,8 @@ pub returns-in-Some-clause-value : goal.returns-in-Some-clause-value
 returns-in-Some-clause-value g c =
     let j = c.loop-position.position in
     let p = c.in_ok-place.place in
-    let v = c.in-Some.price in
-    let fits : SFits w64 v = search rules in
-    let same : c.settlement_at.result ≡ record { price = v; step = p.step; place = j + 1 } = c.settlement_at.ensures ∙ ap (λ z. record { price = z; step = p.step; place = j + 1 }) (to_z-of_z w64 v fits) in
-    ap Some same ∙ sym (found_here _ _ j _ c.loop-position.invariant p v (sym (c.place_at.ensures) ∙ c.in_ok-place.was) (sym c.look.ensures.value ∙ c.in-Some.is))
+    let v = c.in-Some.found in
+    ap Some c.settlement_at.ensures ∙ sym (found_here _ _ j _ c.loop-position.invariant p v (sym (c.place_at.ensures) ∙ c.in_ok-place.was) (sym c.look.ensures.value ∙ c.in-Some.is))
 
 pub loop-position-preserved : goal.loop-position-preserved
 loop-position-preserved g c =
