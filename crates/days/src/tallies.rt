@@ -138,14 +138,13 @@ impl Tally {
 
     // Whether there is a price by that step with a time, or with none.
     fn add_price(&mut self, step: &str, place: &str, time: &str) -> bool {
+        if time != "-" {
+            return add_one_of(&mut self.with_time, step);
+        }
         if place == "0" {
             add_one(&mut self.first_marks);
         }
-        if time == "-" {
-            add_one_of(&mut self.without_time, step)
-        } else {
-            add_one_of(&mut self.with_time, step)
-        }
+        add_one_of(&mut self.without_time, step)
     }
 
     // Fails if a step, a refusal or a choice was never met.
@@ -162,7 +161,12 @@ impl Tally {
         println!(rt; "listed: {}", self.listed)?;
         show_all(rt, "price with a time by", self.with_time.as_slice())?;
         show_all(rt, "price without a time by", self.without_time.as_slice())?;
-        show(rt, "price by D", "at place 0", self.first_marks)?;
+        show(
+            rt,
+            "price without a time by D",
+            "at place 0",
+            self.first_marks,
+        )?;
         show(
             rt,
             "price by L",
