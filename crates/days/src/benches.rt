@@ -1,6 +1,6 @@
 // The three that answer the lines of a day, held against each other.
-use crate::deals::Deals;
 use crate::tallies::Tally;
+use crate::trades::Trades;
 use answers::faults::LineFault;
 use anyhow::{anyhow, ensure};
 use board::boards::Board;
@@ -67,7 +67,7 @@ pub(crate) struct Bench<'a> {
     on_tape: Desk,
     tape: Tape<'a>,
     second: Second,
-    deals: Deals,
+    trades: Trades,
 }
 
 impl<'a> Bench<'a> {
@@ -80,7 +80,7 @@ impl<'a> Bench<'a> {
             on_tape: Desk::new(),
             tape: Tape::new(LawfulDay::least(), slots),
             second: Second::new(alloc, capacity),
-            deals: Deals::new(alloc),
+            trades: Trades::new(alloc),
         }
     }
 
@@ -126,9 +126,9 @@ impl<'a> Bench<'a> {
 
     fn count(&mut self, line: &[u8], answer: &str, tally: &mut Tally) -> Result<(), AllocError> {
         if answer == "done" {
-            self.deals.keep(line)?;
+            self.trades.keep(line)?;
         }
-        if let Some(choice) = self.deals.choice_of(answer)? {
+        if let Some(choice) = self.trades.choice_of(answer)? {
             tally.add_choice(choice);
         }
         tally.add_answer(answer);

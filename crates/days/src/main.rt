@@ -5,10 +5,10 @@
 mod benches;
 mod chance;
 mod damage;
-mod deals;
 mod plans;
 mod stamps;
 mod tallies;
+mod trades;
 
 use crate::benches::Bench;
 use crate::plans::Plan;

@@ -1,5 +1,5 @@
 // How many answers of each kind there were.
-use crate::deals::Choice;
+use crate::trades::Choice;
 use anyhow::ensure;
 use std::alloc::{AllocError, Global};
 

@@ -14,7 +14,7 @@ use Rattle.house.specs.declared.terms.Listing.{Listing}
 use Rattle.house.specs.declared.terms.Terms.{Terms}
 
 -- a number that is not negative is kept as it is
-kept_number : (r : ℤ) (b : Bool) → (le_z (pos 0) r && b) ≡ true → pos (nat_abs r) ≡ r
+pub kept_number : (r : ℤ) (b : Bool) → (le_z (pos 0) r && b) ≡ true → pos (nat_abs r) ≡ r
 kept_number (pos n) b h = refl
 kept_number (negsuc n) b h = absurd (true≢false (sym h))
 

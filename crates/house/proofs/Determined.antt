@@ -9,8 +9,8 @@ use Rattle.rows.specs.declared.places.Place.{Place}
 use Rattle.house.specs.Answers.{Answer, origin_of, price_of, row_of, some_refers, station, time_of}
 use Rattle.house.specs.ByPath.{MayAsk}
 use Rattle.house.specs.Calls.{State}
-use Rattle.house.specs.FindsPrice.{PlaceFinds}
-use Rattle.house.specs.Found.{Station, place_time}
+use Rattle.house.specs.FindsPrice.{PlaceFinds, PlaceHasTime}
+use Rattle.house.specs.Found.{Station}
 use Rattle.house.specs.Meaning.{AnswerOf, AreReferences, ComesFrom, Explained, OneAnswer, Refused, RuledFirst, Settles, StandsAt, TellsAnswer, is_first, is_refused}
 use Rattle.house.specs.Questions.{is_open, or_no_price}
 use Rattle.house.specs.Rolls.{is_listed}
@@ -18,7 +18,7 @@ use Rattle.house.specs.declared.answers.Settlement.{Settlement}
 use Rattle.house.specs.declared.faults.HouseFault.{HouseFault}
 use Rattle.house.specs.declared.series.Ruling.{Ruling}
 use Rattle.house.specs.declared.series.Series.{Series}
-use Rattle.house.proofs.StepFinds.{place_finds_once}
+use Rattle.house.proofs.StepFinds.{place_finds_once, place_time_once}
 
 -- ---- settlements
 
@@ -34,9 +34,9 @@ one_ruled o s t h k =
 not_unruled : (o : Option Ruling) (s : Settlement) → RuledFirst o s → is_first o ≡ false → ⊥
 not_unruled o s h unruled = both_ways (is_first o) unruled (ap is_first h.stands ∙ h.first)
 
--- where a place finds no two prices, no two settlements stand at the places of a row
-one_stands : (Finds : Place → ℤ → Type 0) → ((q : Place) (p r : ℤ) → Finds q p → Finds q r → p ≡ r) → (time_at : Place → Option ℤ) (ps : List Place) (s t : Settlement) → StandsAt Finds time_at ps s → StandsAt Finds time_at ps t → s ≡ t
-one_stands Finds once time_at ps s t h k = by (cases_order h.position k.position)
+-- where a place finds no two prices and has no two times, no two settlements stand at the places of a row
+one_stands : (Finds : Place → ℤ → Type 0) → ((q : Place) (p r : ℤ) → Finds q p → Finds q r → p ≡ r) → (Has : Place → Option ℤ → Type 0) → ((q : Place) (t u : Option ℤ) → Has q t → Has q u → t ≡ u) → (ps : List Place) (s t : Settlement) → StandsAt Finds Has ps s → StandsAt Finds Has ps t → s ≡ t
+one_stands Finds once Has time_once ps s t h k = by (cases_order h.position k.position)
   where
     by : (h.position ≡ k.position) ⊎ ((h.position < k.position) ⊎ (k.position < h.position)) → s ≡ t
     by (inl e) =
@@ -45,7 +45,7 @@ one_stands Finds once time_at ps s t h k = by (cases_order h.position k.position
         (once k.place s.price t.price (subst (λ (q : Place). Finds q s.price) same h.price) k.price)
         (sym h.step ∙ ap (λ (p : Place). p.step) same ∙ k.step)
         (h.counted ∙ ap (λ n. n + 1) e ∙ sym k.counted)
-        (h.time ∙ ap time_at same ∙ sym k.time)
+        (time_once k.place s.time t.time (subst (λ (q : Place). Has q s.time) same h.time) k.time)
     by (inr (inl l)) = absurd (k.before h.position h.place s.price l h.stands h.price)
     by (inr (inr l)) = absurd (h.before k.position k.place t.price l k.stands k.price)
 
@@ -77,7 +77,7 @@ module _ (P : ℕ → ℤ → Bool) (ed : Edition) (x : Station) (u : Option Ans
   one_settled s t (inl f) (inl g) = one_ruled x.series.ruling s t f g
   one_settled s t (inl f) (inr g) = absurd (not_unruled x.series.ruling s f g.0)
   one_settled s t (inr f) (inl g) = absurd (not_unruled x.series.ruling t g f.0)
-  one_settled s t (inr f) (inr g) = one_stands (PlaceFinds P (price_of u) x) (place_finds_once P (price_of u) x) (place_time (time_of u) x) ps s t f.1 g.1
+  one_settled s t (inr f) (inr g) = one_stands (PlaceFinds P (price_of u) x) (place_finds_once P (price_of u) x) (PlaceHasTime (time_of u) x) (place_time_once (time_of u) x) ps s t f.1 g.1
 
   one_settles : (a b : Answer) → Settles P ed x u a → Settles P ed x u b → a ≡ b
   one_settles (Ok s) (Ok t) h k = ap Ok (one_settled s t h k)

@@ -9,8 +9,8 @@ use Rattle.rows.specs.declared.places.Place.{Place}
 use Rattle.rows.specs.declared.steps.Step as steps
 use Rattle.house.specs.Answers.{Answer, answered, answer_at, behind, by_row, first_found, or_later, or_refused, origin, origin_of, price_of, references, row_of, ruled_first, path_answer, some_refers, station, time_of}
 use Rattle.house.specs.Calls.{State, demand}
-use Rattle.house.specs.FindsPrice.{PlaceFinds}
-use Rattle.house.specs.Found.{Station, found, place_time}
+use Rattle.house.specs.FindsPrice.{PlaceFinds, PlaceHasTime}
+use Rattle.house.specs.Found.{Station, found}
 use Rattle.house.specs.Meaning.{AnswerOf, AreReferences, Explained, Refused, Settles, StandsAt, is_first, is_refused}
 use Rattle.house.specs.Questions.{is_open, or_no_price, settle_answer}
 use Rattle.house.specs.Rolls.{is_listed}
@@ -21,7 +21,7 @@ use Rattle.house.specs.declared.faults.HouseFault.{HouseFault}
 use Rattle.house.specs.declared.faults.HouseFault.TheVariants.{NoSuchSeries, WrongPhase}
 use Rattle.house.specs.declared.series.Ruling.{Ruling}
 use Rattle.house.specs.declared.series.Series.{Series}
-use Rattle.house.proofs.OnPath.{in_time}
+use Rattle.house.proofs.OnPath.{may_ask_answer}
 use Rattle.house.proofs.Paths.{earlier}
 use Rattle.house.proofs.StepFinds.{found_is, none_found}
 
@@ -34,7 +34,7 @@ record StandsFrom (find : Place → Option TimedPrice) (k : ℕ) (ps : List Plac
   stands : at ps position ≡ Some place
   counted : s.place ≡ position + k
   step : place.step ≡ s.step
-  finds : find place ≡ Some (record { price = s.price; time = s.time })
+  result : find place ≡ Some (record { price = s.price; time = s.time })
   before : (j : ℕ) (q : Place) → j < position → at ps j ≡ Some q → find q ≡ None
 
 -- a settlement stands at a place, or no place finds
@@ -55,7 +55,7 @@ module _ (find : Place → Option TimedPrice) (k : ℕ) (p : Place) (ps : List P
     stands = h.stands;
     counted = let c = h.counted in omega arith;
     step = h.step;
-    finds = h.finds;
+    result = h.result;
     before = before;
   }
     where
@@ -76,7 +76,7 @@ first_explained find k (p ∷ ps) = by (find p) (first_found find (k + 1) ps) re
       stands = refl;
       counted = omega arith;
       step = refl;
-      finds = is;
+      result = is;
       before = λ j q l e. absurd (omega arith);
     }
 
@@ -92,7 +92,7 @@ module _ (P : ℕ → ℤ → Bool) (near : (n : ℕ) (z : ℤ) → Near (P n) z
   none_finds : FoundFrom find 1 ps None → (k : ℕ) (q : Place) (p : ℤ) → at ps k ≡ Some q → PlaceFinds P (price_of u) x q p → ⊥
   none_finds none k q p e = none_found P near (price_of u) (time_of u) x q p (none k q e)
 
-  stands_at : (s : Settlement) → FoundFrom find 1 ps (Some s) → StandsAt (PlaceFinds P (price_of u) x) (place_time (time_of u) x) ps s
+  stands_at : (s : Settlement) → FoundFrom find 1 ps (Some s) → StandsAt (PlaceFinds P (price_of u) x) (PlaceHasTime (time_of u) x) ps s
   stands_at s h = record {
     position = h.position;
     place = h.place;
@@ -104,8 +104,8 @@ module _ (P : ℕ → ℤ → Bool) (near : (n : ℕ) (z : ℤ) → Near (P n) z
     before = λ k q p l e. none_found P near (price_of u) (time_of u) x q p (h.before k q l e);
   }
     where
-      is : PlaceFinds P (price_of u) x h.place s.price × (s.time ≡ place_time (time_of u) x h.place)
-      is = found_is P near (price_of u) (time_of u) x h.place (record { price = s.price; time = s.time }) h.finds
+      is : PlaceFinds P (price_of u) x h.place s.price × PlaceHasTime (time_of u) x h.place s.time
+      is = found_is P near (price_of u) (time_of u) x h.place (record { price = s.price; time = s.time }) h.result
 
   refusal : is_first x.series.ruling ≡ false → FoundFrom find 1 ps None → Refused P ed x u (origin ed x u)
   refusal unruled none =
@@ -170,6 +170,6 @@ answer_explained P near ed s m lawful n r is =
         references = behind_explained s.roll.series lawful k (s.roll.series k).terms.reference (λ q so. earlier k (s.roll.series k) q (lawful k) so);
         answer = answer_at P ed s m k;
         stands = path_explained P near ed (station s m k) (map (station s m) (references s.roll.series k));
-        told = is ∙ in_time P ed s m n may;
+        told = is ∙ may_ask_answer P ed s m n may;
       };
     }

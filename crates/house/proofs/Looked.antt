@@ -1,6 +1,7 @@
 -- What the steps find, and how far it reaches.
-use Rattle.std.proofs.Common.{◌≡◌, ℕ, ◌+◌, ◌≤◌, Bool, true, cond, ℤ, pos, negsuc, ◌+ℤ◌, ◌-ℤ◌, ◌*ℤ◌, nat_abs, ◌≤ℤ◌, Some, None, Ok, Option, sym, refl, ap, ◌∙◌, arith}
+use Rattle.std.proofs.Common.{◌≡◌, ℕ, ◌+◌, ◌≤◌, Bool, true, cond, ℤ, pos, negsuc, ◌+ℤ◌, ◌-ℤ◌, ◌*ℤ◌, nat_abs, ◌≤ℤ◌, Some, None, Ok, Option, sym, ap, ◌∙◌, arith}
 use lib.Signed.{le_z}
+use Rattle.std.specs.Option.{IfSome}
 use Rattle.std.proofs.lemmas.Int.{ints}
 use Rattle.std.proofs.lemmas.Bool.{and_parts, cond_both, cond-false, cond-true}
 use Rattle.book.specs.Bounds.{bounded, last_if}
@@ -19,8 +20,8 @@ use Rattle.ladders.proofs.Nearest.{above_of_is, above_value, below_of_is, ceilin
 use Rattle.rows.specs.declared.steps.Step.{Step}
 use Rattle.rows.specs.declared.steps.Step.TheVariants.{Auction, Trade, Quote, Average, Theory, TheoryUp, Spread, PreviousSpread, Copy, Previous, Ruling}
 use Rattle.house.specs.Answers.{Answer, ruled_first}
-use Rattle.house.specs.Found.{above_theory, finds, last_value, less, middle, nearest_theory, quoted, ruled}
-use Rattle.house.specs.Reach.{InReach, InReachBefore, reach, spread_if}
+use Rattle.house.specs.Found.{above_theory, price_found, last_value, less, middle, nearest_theory, quoted, ruled}
+use Rattle.house.specs.Reach.{InReach, InReachBefore, reach}
 use Rattle.house.specs.Series.{lawful_ruling, lawful_series}
 use Rattle.house.specs.Terms.{lawful_spread}
 use Rattle.house.specs.declared.series.Ruling as rulings
@@ -35,7 +36,7 @@ above_found P near v (Some p) h = ap Some (above_value P near v p h.1) ∙ sym (
 
 pub record SeriesParts (s : Series) : Type 0 where
   pub previous_settlement : side_lawful s.terms.previous_settlement ≡ true
-  pub previous_spread : spread_if s.terms.previous_spread ≡ true
+  pub previous_spread : IfSome s.terms.previous_spread (λ d. spread_lawful d ≡ true)
   pub theory : side_lawful s.theory ≡ true
   pub ruling : lawful_ruling s.ruling ≡ true
 
@@ -46,25 +47,21 @@ series_parts n s h =
     let previous = and_parts _ _ (and_parts _ _ whole.0).1 in
     record { previous_settlement = previous.0; previous_spread = any_spread s.terms.previous_spread previous.1; theory = supplied.0; ruling = supplied.1 }
   where
-    any_spread : (v : Option ℤ) → lawful_spread s.terms.family v ≡ true → spread_if v ≡ true
-    any_spread None e = refl
+    any_spread : (v : Option ℤ) → lawful_spread s.terms.family v ≡ true → IfSome v (λ d. spread_lawful d ≡ true)
+    any_spread None e = tt
     any_spread (Some v) e = (and_parts _ _ e).1
 
 -- the previous spread that a series has, if any, is within the limits of spreads
-pub previous_spread_within : (n : ℕ) (s : Series) → lawful_series n s ≡ true → spread_if s.terms.previous_spread ≡ true
+pub previous_spread_within : (n : ℕ) (s : Series) → lawful_series n s ≡ true → IfSome s.terms.previous_spread (λ d. spread_lawful d ≡ true)
 previous_spread_within n s h = (series_parts n s h).previous_spread
 
--- a last figure, if there is one, has a value within the limits of its kind
-last_price_within : (o : Option (Last ℤ)) → last_if price_lawful o ≡ true → side_lawful (last_value o) ≡ true
-last_price_within None h = refl
-last_price_within (Some l) h = h
+-- the last spread, if there is one, is too
+last_spread : (o : Option (Last ℤ)) → last_if spread_lawful o ≡ true → IfSome (last_value o) (λ d. spread_lawful d ≡ true)
+last_spread None h = tt
+last_spread (Some l) h = h
 
-last_if_spread : (o : Option (Last ℤ)) → last_if spread_lawful o ≡ true → spread_if (last_value o) ≡ true
-last_if_spread None h = refl
-last_if_spread (Some l) h = h
-
-pub last_spread_within : (k : ℕ) (f : Figures) → bounded k f ≡ true → spread_if (last_value f.spread) ≡ true
-last_spread_within k f b = last_if_spread f.spread (parts k f b).spread
+pub last_spread_within : (k : ℕ) (f : Figures) → bounded k f ≡ true → IfSome (last_value f.spread) (λ d. spread_lawful d ≡ true)
+last_spread_within k f b = last_spread f.spread (parts k f b).spread
 
 -- ---- how far prices reach
 
@@ -74,6 +71,10 @@ price_reach n v h = let b = price_bound v h in omega arith
 within_reach : (n : ℕ) (v : Option ℤ) → side_lawful v ≡ true → InReach n v
 within_reach n None h = tt
 within_reach n (Some v) h = price_reach n v h
+
+last_reach : (n : ℕ) (o : Option (Last ℤ)) → last_if price_lawful o ≡ true → InReach n (last_value o)
+last_reach n None h = tt
+last_reach n (Some l) h = price_reach n l.value h
 
 -- a number less than a tick past the price limit is in reach
 past_the_limit : (z : ℤ) (n : ℕ) → negsuc 1000999999 ≤ℤ z → z ≤ℤ pos 1001000000 → nat_abs z ≤ reach n
@@ -129,7 +130,7 @@ theory_reach P near n (Some v) =
     (nearest_reach P near n v 1, cond_both (within v) (Some (above_of P v)) None (InReach n) (λ e. above_reach P near n v e) (λ e. tt))
 
 -- a spread takes a reference's price no further than the next reach
-less_reach : (n : ℕ) (p v : Option ℤ) → InReachBefore n p → spread_if v ≡ true → InReach n (less p v)
+less_reach : (n : ℕ) (p v : Option ℤ) → InReachBefore n p → IfSome v (λ d. spread_lawful d ≡ true) → InReach n (less p v)
 less_reach n None v h k = tt
 less_reach n (Some p) None h k = tt
 less_reach n (Some p) (Some v) h k = let b = spread_bound v k in let d = abs_less p v in omega arith
@@ -149,9 +150,9 @@ ruling_reach n None h = tt
 ruling_reach n (Some r) h = price_reach n r.value h
 
 -- whatever a step finds is in reach, where the reference's price is a spread short of it
-pub finds_reach : (P : ℤ → Bool) → ((z : ℤ) → Near P z) → (n k : ℕ) (p : Option ℤ) (s : Series) (f : Figures) (step : Step) → lawful_series n s ≡ true → InReachBefore n p → bounded k f ≡ true → InReach n (finds P p s f step)
-finds_reach P near n k p s f Auction h r b = within_reach n (last_value f.auction) (last_price_within f.auction (parts k f b).auction)
-finds_reach P near n k p s f Trade h r b = within_reach n (last_value f.trade) (last_price_within f.trade (parts k f b).trade)
+pub finds_reach : (P : ℤ → Bool) → ((z : ℤ) → Near P z) → (n k : ℕ) (p : Option ℤ) (s : Series) (f : Figures) (step : Step) → lawful_series n s ≡ true → InReachBefore n p → bounded k f ≡ true → InReach n (price_found P p s f step)
+finds_reach P near n k p s f Auction h r b = last_reach n f.auction (parts k f b).auction
+finds_reach P near n k p s f Trade h r b = last_reach n f.trade (parts k f b).trade
 finds_reach P near n k p s f Quote h r b = quote_reach P near n (last_value f.quote)
 finds_reach P near n k p s f Average h r b = nearest_reach P near n f.money (nat_abs f.lots)
 finds_reach P near n k p s f Theory h r b = (theory_reach P near n s.theory).0

@@ -41,9 +41,9 @@ module _ (s t : State) (m k : Ledger) where
       let stations = equal_along (references s.roll.series n) h.1 ∙ ap (map (station t k)) rest in
       λ i. path_answer P ed (equal_stations (station s m n) (station t k n) h.0 i) (stations i)
 
--- a question in time is answered
-pub in_time : (P : ℕ → ℤ → Bool) (ed : Edition) (s : State) (m : Ledger) (n : ℤ) → MayAsk ed n s → settle_answer P ed n s m ≡ or_no_price (answer_at P ed s m (nat_abs n))
-in_time P ed s m n may =
+-- a question that may be asked has the answer of the series
+pub may_ask_answer : (P : ℕ → ℤ → Bool) (ed : Edition) (s : State) (m : Ledger) (n : ℤ) → MayAsk ed n s → settle_answer P ed n s m ≡ or_no_price (answer_at P ed s m (nat_abs n))
+may_ask_answer P ed s m n may =
     let answer = or_no_price (answer_at P ed s m (nat_abs n)) in
     cond-true (is_open s.phase ed) (demand (is_listed s.roll.count n) NoSuchSeries answer) (Err WrongPhase) may.opened
     ∙ cond-true (is_listed s.roll.count n) answer (Err NoSuchSeries) may.listed
@@ -51,6 +51,6 @@ in_time P ed s m n may =
 pub answered_by_path : (P : ℕ → ℤ → Bool) (ed : Edition) (s : State) (m : Ledger) (n : ℤ) (r : Result Settlement HouseFault) → r ≡ settle_answer P ed n s m → ByPath P ed s m n r
 answered_by_path P ed s m n r is t k here there same =
     is
-    ∙ in_time P ed s m n here
+    ∙ may_ask_answer P ed s m n here
     ∙ ap or_no_price (same_settled s t m k P ed (nat_abs n) same)
-    ∙ sym (in_time P ed t k n there)
+    ∙ sym (may_ask_answer P ed t k n there)

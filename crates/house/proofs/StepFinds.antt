@@ -3,6 +3,7 @@ use Rattle.std.proofs.Common.{◌≡◌, ℕ, ◌<◌, Bool, true, cond, ℤ, �
 use Rattle.std.proofs.lemmas.Bool.{cond_both, cond-true}
 use Rattle.std.proofs.lemmas.Option.{none-some, same_Some}
 use Rattle.book.specs.declared.figures.Figures.{Figures}
+use Rattle.book.specs.declared.figures.Last.{Last}
 use Rattle.book.specs.declared.figures.Sides.{Sides}
 use Rattle.ladders.specs.Fractions.{ceiling, floor, inside}
 use Rattle.ladders.specs.Orders.{above_once}
@@ -14,8 +15,8 @@ use Rattle.rows.specs.Codes.{window_number}
 use Rattle.rows.specs.declared.places.Place.{Place}
 use Rattle.rows.specs.declared.steps.Step.{Step}
 use Rattle.rows.specs.declared.steps.Step.TheVariants.{Auction, Trade, Quote, Average, Theory, TheoryUp, Spread, PreviousSpread, Copy, Previous, Ruling}
-use Rattle.house.specs.FindsPrice.{FindsPrice, IsLess, IsNearest, IsNearestMiddle, PlaceFinds}
-use Rattle.house.specs.Found.{Station, above_theory, finds, found, last_value, less, middle, nearest_theory, place_time, quoted, ruled, timed}
+use Rattle.house.specs.FindsPrice.{FindsPrice, HasTime, IsLess, IsNearest, IsNearestMiddle, IsStampOf, PlaceFinds, PlaceHasTime}
+use Rattle.house.specs.Found.{Station, above_theory, price_found, found, last_stamp, last_value, less, middle, nearest_theory, place_price, place_time, quoted, ruled, time_found, timed}
 use Rattle.house.specs.declared.answers.TimedPrice.{TimedPrice}
 use Rattle.house.specs.declared.series.Ruling as rulings
 use Rattle.house.specs.declared.series.Series.{Series}
@@ -54,6 +55,27 @@ module _ (P : ℤ → Bool) where
   finds_once u s f Copy p r h k = same_value u p r h k
   finds_once u s f Previous p r h k = same_value s.terms.previous_settlement p r h k
   finds_once u s f Ruling p r (a, h, e) (b, k, g) = e ∙ ap (λ (x : rulings.Ruling). x.value) (same_value s.ruling a b h k) ∙ sym g
+
+-- nor two times
+stamp_once : {V : Type 0} (o : Option (Last V)) (t u : Option ℤ) → IsStampOf o t → IsStampOf o u → t ≡ u
+stamp_once None t u h k = h ∙ sym k
+stamp_once (Some l) t u h k = h ∙ sym k
+
+time_once : (v : Option ℤ) (f : Figures) (step : Step) (t u : Option ℤ) → HasTime v f step t → HasTime v f step u → t ≡ u
+time_once v f Auction t u h k = stamp_once f.auction t u h k
+time_once v f Trade t u h k = stamp_once f.trade t u h k
+time_once v f Quote t u h k = stamp_once f.quote t u h k
+time_once v f Average t u h k = stamp_once f.trade t u h k
+time_once v f Theory t u h k = h ∙ sym k
+time_once v f TheoryUp t u h k = h ∙ sym k
+time_once v f Spread t u h k = stamp_once f.spread t u h k
+time_once v f PreviousSpread t u h k = h ∙ sym k
+time_once v f Copy t u h k = h ∙ sym k
+time_once v f Previous t u h k = h ∙ sym k
+time_once v f Ruling t u h k = h ∙ sym k
+
+pub place_time_once : (v : Option ℤ) (x : Station) (q : Place) (t u : Option ℤ) → PlaceHasTime v x q t → PlaceHasTime v x q u → t ≡ u
+place_time_once v x q t u h k = time_once v (x.figures (window_number q.window)) q.step t u h k
 
 pub place_finds_once : (P : ℕ → ℤ → Bool) (u : Option ℤ) (x : Station) (q : Place) (p r : ℤ) → PlaceFinds P u x q p → PlaceFinds P u x q r → p ≡ r
 place_finds_once P u x q p r h k = finds_once (P x.series.terms.ladder) u x.series (x.figures (window_number q.window)) q.step p r h k
@@ -105,7 +127,7 @@ module _ (P : ℤ → Bool) (near : (z : ℤ) → Near P z) where
   above_theory_value v p e h = cond-true (within v) (Some (above_of P v)) None e ∙ ap Some (sym (above_value P near v p h))
 
   -- so for every step
-  finds_value : (u : Option ℤ) (s : Series) (f : Figures) (t : Step) (p : ℤ) → FindsPrice P u s f t p → finds P u s f t ≡ Some p
+  finds_value : (u : Option ℤ) (s : Series) (f : Figures) (t : Step) (p : ℤ) → FindsPrice P u s f t p → price_found P u s f t ≡ Some p
   finds_value u s f Auction p h = h
   finds_value u s f Trade p h = h
   finds_value u s f Quote p h = quoted_value (last_value f.quote) p h
@@ -118,7 +140,7 @@ module _ (P : ℤ → Bool) (near : (z : ℤ) → Near P z) where
   finds_value u s f Previous p h = h
   finds_value u s f Ruling p (a, h, e) = ap ruled h ∙ ap Some (sym e)
 
-  finds_is : (u : Option ℤ) (s : Series) (f : Figures) (t : Step) (p : ℤ) → finds P u s f t ≡ Some p → FindsPrice P u s f t p
+  finds_is : (u : Option ℤ) (s : Series) (f : Figures) (t : Step) (p : ℤ) → price_found P u s f t ≡ Some p → FindsPrice P u s f t p
   finds_is u s f Auction p h = h
   finds_is u s f Trade p h = h
   finds_is u s f Quote p h = quoted_is (last_value f.quote) p h
@@ -154,16 +176,34 @@ no_price : (price time : Option ℤ) → timed price time ≡ None → price ≡
 no_price None time h = refl
 no_price (Some p) time h = absurd (none-some (record { price = p; time = time }) (sym h))
 
-module _ (P : ℕ → ℤ → Bool) (near : (n : ℕ) (z : ℤ) → Near (P n) z) (u time : Option ℤ) (x : Station) (q : Place) where
-  abbrev price : Option ℤ
-  price = finds (P x.series.terms.ladder) u x.series (x.figures (window_number q.window)) q.step
+-- what is computed of the time is the time
+stamp_is : {V : Type 0} (o : Option (Last V)) → IsStampOf o (last_stamp o)
+stamp_is None = refl
+stamp_is (Some l) = refl
 
-  pub found_is : (v : TimedPrice) → found P u time x q ≡ Some v → PlaceFinds P u x q v.price × (v.time ≡ place_time time x q)
+time_is : (v : Option ℤ) (f : Figures) (step : Step) → HasTime v f step (time_found v f step)
+time_is v f Auction = stamp_is f.auction
+time_is v f Trade = stamp_is f.trade
+time_is v f Quote = stamp_is f.quote
+time_is v f Average = stamp_is f.trade
+time_is v f Theory = refl
+time_is v f TheoryUp = refl
+time_is v f Spread = stamp_is f.spread
+time_is v f PreviousSpread = refl
+time_is v f Copy = refl
+time_is v f Previous = refl
+time_is v f Ruling = refl
+
+module _ (P : ℕ → ℤ → Bool) (near : (n : ℕ) (z : ℤ) → Near (P n) z) (u time : Option ℤ) (x : Station) (q : Place) where
+  pub found_is : (v : TimedPrice) → found P u time x q ≡ Some v → PlaceFinds P u x q v.price × PlaceHasTime time x q v.time
   found_is v h =
-      let both = timed_parts price (place_time time x q) v h in
-      (finds_is (P x.series.terms.ladder) (near x.series.terms.ladder) u x.series (x.figures (window_number q.window)) q.step v.price both.0, sym both.1)
+      let both = timed_parts (place_price P u x q) (place_time time x q) v h in
+      let f = x.figures (window_number q.window) in (
+        finds_is (P x.series.terms.ladder) (near x.series.terms.ladder) u x.series f q.step v.price both.0,
+        subst (PlaceHasTime time x q) both.1 (time_is time f q.step),
+      )
 
   pub none_found : (p : ℤ) → found P u time x q ≡ None → PlaceFinds P u x q p → ⊥
   none_found p none h =
-      none-some p (sym (no_price price (place_time time x q) none)
+      none-some p (sym (no_price (place_price P u x q) (place_time time x q) none)
       ∙ finds_value (P x.series.terms.ladder) (near x.series.terms.ladder) u x.series (x.figures (window_number q.window)) q.step p h)

@@ -62,44 +62,47 @@ ruled None = None
 ruled (Some r) = Some r.value
 
 -- the price that a step finds on the lawful prices of the series' ladder, with the reference's price and the figures of its window
-abbrev pub finds : (ℤ → Bool) → Option ℤ → Series → Figures → Step → Option ℤ
-finds lawful reference s f Auction = last_value f.auction
-finds lawful reference s f Trade = last_value f.trade
-finds lawful reference s f Quote = quoted lawful (last_value f.quote)
-finds lawful reference s f Average = average lawful f.money f.lots
-finds lawful reference s f Theory = nearest_theory lawful s.theory
-finds lawful reference s f TheoryUp = above_theory lawful s.theory
-finds lawful reference s f Spread = less reference (last_value f.spread)
-finds lawful reference s f PreviousSpread = less reference s.terms.previous_spread
-finds lawful reference s f Copy = reference
-finds lawful reference s f Previous = s.terms.previous_settlement
-finds lawful reference s f Ruling = ruled s.ruling
+abbrev pub price_found : (ℤ → Bool) → Option ℤ → Series → Figures → Step → Option ℤ
+price_found lawful reference_price s f Auction = last_value f.auction
+price_found lawful reference_price s f Trade = last_value f.trade
+price_found lawful reference_price s f Quote = quoted lawful (last_value f.quote)
+price_found lawful reference_price s f Average = average lawful f.money f.lots
+price_found lawful reference_price s f Theory = nearest_theory lawful s.theory
+price_found lawful reference_price s f TheoryUp = above_theory lawful s.theory
+price_found lawful reference_price s f Spread = less reference_price (last_value f.spread)
+price_found lawful reference_price s f PreviousSpread = less reference_price s.terms.previous_spread
+price_found lawful reference_price s f Copy = reference_price
+price_found lawful reference_price s f Previous = s.terms.previous_settlement
+price_found lawful reference_price s f Ruling = ruled s.ruling
 
 -- the time of the evidence that a step looks for, with the time of the reference's answer and the figures of its window: V has the
 -- last trade's, and T, U, P, B and D have none
 abbrev pub time_found : Option ℤ → Figures → Step → Option ℤ
-time_found reference f Auction = last_stamp f.auction
-time_found reference f Trade = last_stamp f.trade
-time_found reference f Quote = last_stamp f.quote
-time_found reference f Average = last_stamp f.trade
-time_found reference f Theory = None
-time_found reference f TheoryUp = None
-time_found reference f Spread = last_stamp f.spread
-time_found reference f PreviousSpread = None
-time_found reference f Copy = reference
-time_found reference f Previous = None
-time_found reference f Ruling = None
+time_found reference_time f Auction = last_stamp f.auction
+time_found reference_time f Trade = last_stamp f.trade
+time_found reference_time f Quote = last_stamp f.quote
+time_found reference_time f Average = last_stamp f.trade
+time_found reference_time f Theory = None
+time_found reference_time f TheoryUp = None
+time_found reference_time f Spread = last_stamp f.spread
+time_found reference_time f PreviousSpread = None
+time_found reference_time f Copy = reference_time
+time_found reference_time f Previous = None
+time_found reference_time f Ruling = None
 
 -- a price, if one is found, with its time
 abbrev pub timed : Option ℤ → Option ℤ → Option TimedPrice
 timed None time = None
 timed (Some p) time = Some (record { price = p; time = time })
 
--- the time of what a place of a row finds for a series
-abbrev pub place_time : Option ℤ → Station → Place → Option ℤ
-place_time reference x p = time_found reference (x.figures (window_number p.window)) p.step
+-- the price that a place of a row finds for a series, and its time, with those of the reference's answer
+abbrev pub place_price : (ℕ → ℤ → Bool) → Option ℤ → Station → Place → Option ℤ
+place_price lawful reference_price x p =
+    price_found (lawful x.series.terms.ladder) reference_price x.series (x.figures (window_number p.window)) p.step
 
--- what a place of a row finds for a series, with the price and the time of the reference's answer
+abbrev pub place_time : Option ℤ → Station → Place → Option ℤ
+place_time reference_time x p = time_found reference_time (x.figures (window_number p.window)) p.step
+
+-- what a place of a row finds for a series
 abbrev pub found : (ℕ → ℤ → Bool) → Option ℤ → Option ℤ → Station → Place → Option TimedPrice
-found lawful price time x p =
-    timed (finds (lawful x.series.terms.ladder) price x.series (x.figures (window_number p.window)) p.step) (place_time time x p)
+found lawful reference_price reference_time x p = timed (place_price lawful reference_price x p) (place_time reference_time x p)

@@ -8,8 +8,8 @@ use Rattle.rows.specs.declared.steps.Step as steps
 use Rattle.house.specs.Answers.{Answer, price_of, row_of, some_refers, station, time_of}
 use Rattle.house.specs.ByPath.{MayAsk}
 use Rattle.house.specs.Calls.{State}
-use Rattle.house.specs.FindsPrice.{PlaceFinds}
-use Rattle.house.specs.Found.{Station, place_time}
+use Rattle.house.specs.FindsPrice.{PlaceFinds, PlaceHasTime}
+use Rattle.house.specs.Found.{Station}
 use Rattle.house.specs.Questions.{is_open, or_no_price}
 use Rattle.house.specs.Rolls.{is_listed}
 use Rattle.house.specs.declared.answers.Settlement.{Settlement}
@@ -37,14 +37,14 @@ pub record RuledFirst (o : Option Ruling) (s : Settlement) : Type 0 where
 
 -- a settlement at a position of the row: the place there has the step, finds the price and has the time, and no earlier place finds
 -- a price
-pub record StandsAt (Finds : Place → ℤ → Type 0) (time_at : Place → Option ℤ) (ps : List Place) (s : Settlement) : Type 0 where
+pub record StandsAt (Finds : Place → ℤ → Type 0) (Has : Place → Option ℤ → Type 0) (ps : List Place) (s : Settlement) : Type 0 where
   pub position : ℕ
   pub place : Place
   pub stands : at ps position ≡ Some place
   pub counted : s.place ≡ position + 1
   pub step : place.step ≡ s.step
   pub price : Finds place s.price
-  pub time : s.time ≡ time_at place
+  pub time : Has place s.time
   pub before : (k : ℕ) (q : Place) (p : ℤ) → k < position → at ps k ≡ Some q → Finds q p → ⊥
 
 -- whether there is a reference and it is refused
@@ -71,7 +71,7 @@ abbrev pub Settles : (ℕ → ℤ → Bool) → Edition → Station → Option A
 Settles lawful ed x reference (Ok s) =
     RuledFirst x.series.ruling s
     ⊎ ((is_first x.series.ruling ≡ false)
-    × StandsAt (PlaceFinds lawful (price_of reference) x) (place_time (time_of reference) x) (row_of x.series ed) s)
+    × StandsAt (PlaceFinds lawful (price_of reference) x) (PlaceHasTime (time_of reference) x) (row_of x.series ed) s)
 Settles lawful ed x reference (Err origin) = Refused lawful ed x reference origin
 
 -- ---- along the path

@@ -1,11 +1,12 @@
 // What each step finds.
 #![tactic(auto, using(crate::proofs::Looked::previous_spread_within, crate::proofs::Looked::last_spread_within))]
 
-ghost use Rattle.std.specs.Prelude.{◌≡◌, ◌≤◌, true, unsigned_abs};
+ghost use Rattle.std.specs.Prelude.{◌≡◌, ◌≤◌, true, unsigned_abs, IfSome};
 ghost use Rattle.book.specs.Bounds.{bounded};
+ghost use Rattle.book.specs.Entries.{spread_lawful};
 ghost use Rattle.house.specs.Answers.{price_of, time_of};
-ghost use Rattle.house.specs.Found.{above_theory, average, finds, last_stamp, last_value, less, nearest_theory, quoted, time_found};
-ghost use Rattle.house.specs.Reach.{InReachBefore, spread_if};
+ghost use Rattle.house.specs.Found.{above_theory, average, price_found, last_stamp, last_value, less, nearest_theory, quoted, time_found};
+ghost use Rattle.house.specs.Reach.{InReachBefore};
 ghost use Rattle.ladders.specs.Values.{nearest_price};
 
 use crate::settling::{Question, price_of, time_of};
@@ -33,7 +34,7 @@ fn last_stamp<V: Copy>(last: Option<Last<V>>) -> Option<i32>
 // since a proof has of a parameter that it fits 8 bits, and of a field has not.
 fn less(number: u8, reference: Option<i64>, spread: Option<i64>) -> Option<i64>
     requires reference { InReachBefore number reference }
-    requires spread { spread_if spread ≡ true }
+    requires spread { IfSome spread (λ d. spread_lawful d ≡ true) }
     ensures { result ≡ less reference spread }
 {
     Some(reference? - spread?)
@@ -77,9 +78,9 @@ impl<L: LadderSet, B: Book> Question<'_, L, B> {
     }
 
     // The price that a step finds, with the figures of the step's window.
-    pub(crate) fn find(&self, figures: &Figures, step: Step) -> Option<i64>
+    pub(crate) fn price_found(&self, figures: &Figures, step: Step) -> Option<i64>
         requires { bounded 30000 figures.now ≡ true }
-        ensures { result ≡ finds (L.lawful self.now.set.now self.now.series.terms.ladder) (price_of self.now.reference) self.now.series figures.now step }
+        ensures { result ≡ price_found (L.lawful self.now.set.now self.now.series.terms.ladder) (price_of self.now.reference) self.now.series figures.now step }
     {
         let series = &self.series;
         let reference = price_of(self.reference);
@@ -104,7 +105,7 @@ impl<L: LadderSet, B: Book> Question<'_, L, B> {
     }
 
     // The time of the evidence that a step looks for, with the figures of the step's window.
-    pub(crate) fn time(&self, figures: &Figures, step: Step) -> Option<i32>
+    pub(crate) fn time_found(&self, figures: &Figures, step: Step) -> Option<i32>
         ensures { result ≡ time_found (time_of self.now.reference) figures.now step }
     {
         match step {

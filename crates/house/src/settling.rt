@@ -5,7 +5,7 @@ ghost use Rattle.rows.specs.Chosen.{chosen};
 ghost use Rattle.rows.specs.Codes.{at};
 ghost use Rattle.house.specs.Answers.{answered, by_row, first_found, origin, origin_of, price_of, refers, row_of, some_refers, time_of};
 ghost use Rattle.house.specs.Found.{found};
-ghost use Rattle.house.specs.Reach.{AnswerInReach, FoundInReach, InReachBefore, PriceInReach};
+ghost use Rattle.house.specs.Reach.{AnswerInReach, FoundInReach, InReachBefore, TimedInReach};
 ghost use Rattle.house.specs.Series.{lawful_series};
 
 use crate::answers::{Settlement, TimedPrice};
@@ -121,12 +121,12 @@ impl<L: LadderSet, B: Book> Question<'_, L, B> {
     fn look(&self, place: Place) -> Option<TimedPrice>
         ensures value { let reference = self.now.reference in
             result ≡ found (L.lawful self.now.set.now) (price_of reference) (time_of reference) (station_in B.meaning self.now) place }
-        ensures reach { PriceInReach self.now.number result }
+        ensures reach { TimedInReach self.now.number result }
     {
         // A step that looks in no window reads none of the figures; no window is numbered 0.
         let figures = self.book.figures(self.number, place.window.unwrap_or(0));
-        let price = self.find(&figures, place.step)?;
-        let time = self.time(&figures, place.step);
+        let price = self.price_found(&figures, place.step)?;
+        let time = self.time_found(&figures, place.step);
         Some(TimedPrice { price, time })
     }
 

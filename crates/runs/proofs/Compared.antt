@@ -26,7 +26,7 @@ use Rattle.house.specs.Series.{lawful_series}
 use Rattle.house.specs.declared.faults.HouseFault.TheVariants.{NoPrice}
 use Rattle.house.specs.declared.houses.House.{House}
 use Rattle.house.specs.declared.series.Series.{Series}
-use Rattle.house.proofs.OnPath.{in_time}
+use Rattle.house.proofs.OnPath.{may_ask_answer}
 use Rattle.calls.specs.Worlds.{World, new_world}
 use Rattle.calls.specs.declared.call.Call.{Call}
 use Rattle.runs.specs.Added.{Among}
@@ -47,15 +47,15 @@ use Rattle.runs.proofs.ToldRuns.{told_from_new}
 -- ---- stations by the calls taken
 
 -- the station of a series on a day
-abbrev pub station_by_calls : Day → List Call → ℕ → Station
+abbrev station_by_calls : Day → List Call → ℕ → Station
 station_by_calls d xs n = record { number = n; series = series_after xs n; figures = figures_of d (entries xs) n }
 
-abbrev pub answer_by_calls : (ℕ → ℤ → Bool) → Edition → Day → List Call → ℕ → Answer
+abbrev answer_by_calls : (ℕ → ℤ → Bool) → Edition → Day → List Call → ℕ → Answer
 answer_by_calls P ed d xs n = path_answer P ed (station_by_calls d xs n) (map (station_by_calls d xs) (references (series_after xs) n))
 
 module _ (d : Day) (k : ℕ) (xs : List Call) (w : World) (told : Told d k xs w) where
   -- what the house would answer
-  pub answer_is_by_calls : (P : ℕ → ℤ → Bool) (ed : Edition) (n : ℕ) → answer_at P ed w.state w.book n ≡ answer_by_calls P ed d xs n
+  answer_is_by_calls : (P : ℕ → ℤ → Bool) (ed : Edition) (n : ℕ) → answer_at P ed w.state w.book n ≡ answer_by_calls P ed d xs n
   answer_is_by_calls P ed n = λ i.
       path_answer P ed (station_of n (told.roll.series n i) (told.book.records i))
       (map (λ r. station_of r (told.roll.series r i) (told.book.records i)) (references (λ r. told.roll.series r i) n))
@@ -91,7 +91,7 @@ pairs : (A : ℕ → Type 0) (R : Relation Station) (f g : ℕ → Station) (pat
 pairs A R f g path [] each a on = tt
 pairs A R f g path (n ∷ ns) each a on = (each n a.0 on.0, pairs A R f g path ns each a.1 on.1)
 
--- ---- answers to a question in time
+-- ---- answers to a question that may be asked
 
 -- what the house answers to it is told by the calls taken
 asked_answer : (d : Day) (k : ℕ) (r : RunMeaning) (n : ℤ) (ed : Edition) → Told d k (calls_taken_in r) (end_world r)
@@ -99,7 +99,7 @@ asked_answer : (d : Day) (k : ℕ) (r : RunMeaning) (n : ℤ) (ed : Edition) →
 asked_answer d k r n ed told may =
     let opened = ap (λ p. is_open p ed) told.phase ∙ may.opened in
     let listed = ap (λ c. is_listed c n) told.roll.count ∙ may.listed in
-    in_time r.lawful ed (end_world r).state (end_world r).book n (record { opened = opened; listed = listed })
+    may_ask_answer r.lawful ed (end_world r).state (end_world r).book n (record { opened = opened; listed = listed })
     ∙ ap or_no_price (answer_is_by_calls d k (calls_taken_in r) (end_world r) told r.lawful ed (nat_abs n))
 
 not_lower_asked : (x y : Answer) → NotLower x y → NotLower (or_no_price x) (or_no_price y)

@@ -16,7 +16,7 @@ use Rattle.rows.specs.declared.steps.Step.{Step}
 use Rattle.rows.specs.declared.steps.Step.TheVariants.{Auction, Trade, Quote, Average, Theory, TheoryUp, Spread, PreviousSpread, Copy, Previous, Ruling}
 use Rattle.house.specs.Answers.{Answer, answered, by_row, first_found, or_later, or_refused, origin, price_of, row_of, ruled_first, path_answer, time_of}
 use Rattle.rows.specs.Codes.{window_number}
-use Rattle.house.specs.Found.{Station, average, finds, found, last_value, less, place_time, quoted, timed}
+use Rattle.house.specs.Found.{Station, average, price_found, found, last_value, less, place_time, quoted, timed}
 use Rattle.house.specs.declared.answers.Settlement.{Settlement}
 use Rattle.house.specs.declared.answers.TimedPrice.{TimedPrice}
 use Rattle.house.specs.declared.series.Ruling as rulings
@@ -65,7 +65,7 @@ last_value_more (Some o) (Some p) h there = refl
 
 -- a step that finds a price in the first finds one in the second
 finds_more : (P : ℤ → Bool) (r q : Option ℤ) (s : Series) (f g : Figures) (k l : ℕ) → bounded k f ≡ true → bounded l g ≡ true
-    → StillThere r q → FiguresMore f g → (step : Step) → StillThere (finds P r s f step) (finds P q s g step)
+    → StillThere r q → FiguresMore f g → (step : Step) → StillThere (price_found P r s f step) (price_found P q s g step)
 finds_more P r q s f g k l lf lg reference more Auction = last_value_more f.auction g.auction more.auction
 finds_more P r q s f g k l lf lg reference more Trade = last_value_more f.trade g.trade more.trade
 finds_more P r q s f g k l lf lg reference more Quote =
@@ -152,7 +152,7 @@ module _ (P : ℕ → ℤ → Bool) (ed : Edition) where
   found_more x y r q t u (lx, ly, more) reference p =
       let w = window_number p.window in
       timed_more _ _ (place_time t x p) (place_time u y p)
-      (subst (λ (s : Series). StillThere (finds (P x.series.terms.ladder) r x.series (x.figures w) p.step) (finds (P s.terms.ladder) q s (y.figures w) p.step)) more.series
+      (subst (λ (s : Series). StillThere (price_found (P x.series.terms.ladder) r x.series (x.figures w) p.step) (price_found (P s.terms.ladder) q s (y.figures w) p.step)) more.series
       (finds_more (P x.series.terms.ladder) r q x.series (x.figures w) (y.figures w) (lx.figures w).0 (ly.figures w).0
       (lx.figures w).1 (ly.figures w).1 reference (more.figures w) p.step))
 

@@ -26,7 +26,7 @@ use Rattle.rows.specs.declared.steps.Step.{Step}
 use Rattle.rows.specs.declared.steps.Step.TheVariants.{Auction, Trade, Quote, Average, Theory, TheoryUp, Spread, PreviousSpread, Copy, Previous, Ruling}
 use Rattle.house.specs.Answers.{Answer, answered, by_row, first_found, or_later, or_refused, origin, origin_of, price_of, row_of, ruled_first, path_answer, some_refers, time_of}
 use Rattle.rows.specs.Codes.{window_number}
-use Rattle.house.specs.Found.{Station, above_theory, average, finds, found, last_stamp, last_value, less, middle, nearest_theory, place_time, quoted, ruled, time_found, timed}
+use Rattle.house.specs.Found.{Station, above_theory, average, price_found, found, last_stamp, last_value, less, middle, nearest_theory, place_time, quoted, ruled, time_found, timed}
 use Rattle.house.specs.declared.answers.Settlement.{Settlement}
 use Rattle.house.specs.declared.answers.TimedPrice.{TimedPrice}
 use Rattle.house.specs.declared.series.Ruling as rulings
@@ -152,7 +152,7 @@ module _ (P : ℤ → Bool) (near : (z : ℤ) → Near P z) where
   -- each step finds a price in both or in neither, and no lower one
   finds_raised : (r q : Option ℤ) (s t : Series) (f g : Figures) (k l : ℕ) → side_lawful s.theory ≡ true
       → side_lawful t.theory ≡ true → bounded k f ≡ true → bounded l g ≡ true → ValueRaised r q → SeriesRaised s t
-      → FiguresRaised f g → (step : Step) → ValueRaised (finds P r s f step) (finds P q t g step)
+      → FiguresRaised f g → (step : Step) → ValueRaised (price_found P r s f step) (price_found P q t g step)
   finds_raised r q s t f g k l ls lt lf lg reference series figures Auction =
       last_value_raised ◌≤ℤ◌ f.auction g.auction figures.auction
   finds_raised r q s t f g k l ls lt lf lg reference series figures Trade = last_value_raised ◌≤ℤ◌ f.trade g.trade figures.trade
@@ -276,7 +276,7 @@ module _ (P : ℕ → ℤ → Bool) (near : (n : ℕ) (z : ℤ) → Near (P n) z
   found_raised x y r q t u (lx, ly, rise) reference same p =
       let w = window_number p.window in
       timed_raised _ _ (place_time t x p) (place_time u y p)
-      (subst (λ (n : ℕ). ValueRaised (finds (P x.series.terms.ladder) r x.series (x.figures w) p.step) (finds (P n) q y.series (y.figures w) p.step)) rise.series.ladder
+      (subst (λ (n : ℕ). ValueRaised (price_found (P x.series.terms.ladder) r x.series (x.figures w) p.step) (price_found (P n) q y.series (y.figures w) p.step)) rise.series.ladder
       (finds_raised (P x.series.terms.ladder) (near x.series.terms.ladder) r q x.series y.series (x.figures w) (y.figures w)
       (lx.figures w).0 (ly.figures w).0
       (series_parts x.number x.series lx.series).theory (series_parts y.number y.series ly.series).theory (lx.figures w).1
@@ -302,7 +302,7 @@ module _ (P : ℕ → ℤ → Bool) (near : (n : ℕ) (z : ℤ) → Near (P n) z
       (found_raised x y (price_of u) (price_of v) (time_of u) (time_of v) pair (price_raised u v h) (same_time_of u v h)) 1 (row_of x.series ed)))
       (origin_raised x y u v rise h))
 
-  -- raised stations settle together, at the same step and place and at no lower price, or are refused from the same series
+  -- raised stations settle together, at the same step, place and time and at no lower price, or are refused from the same series
   pub raised_answers : (x y : Station) (xs ys : List Station) → AllByRecursion StationLawful (x ∷ xs)
       → AllByRecursion StationLawful (y ∷ ys) → AllZip StationRaised (x ∷ xs) (y ∷ ys)
       → NotLower (path_answer P ed x xs) (path_answer P ed y ys)

@@ -46,7 +46,7 @@ pub record TimeByPlace (OfReference : Settlement → Type 0) (d : Day) (n : ℕ)
   pub step : place.step ≡ s.step
   pub time : TimeByStep OfReference n (edges d (window_number place.window)) es place.step s
 
--- a ruling with the first mark has no time
+-- of a settlement by a ruling with the first mark, which has no time, or by a place of the row
 abbrev pub TimeOfOne : (Settlement → Type 0) → Day → ℕ → List Entry → List Place → Settlement → Type 0
 TimeOfOne OfReference d n es row s =
     ((s.place ≡ 0) × (s.step ≡ Ruling) × (s.time ≡ None)) ⊎ TimeByPlace OfReference d n es row s

@@ -92,7 +92,7 @@ fn ask_both<K: LadderSet, J: Book, L: LadderSet, B: Book>(
 /// - if only trades, auctions or spreads were added there, what settled settles, at the same place or an earlier one.
 ///
 /// In a run from a new house and an empty book the time of an answer is the stamp of the entry that stands last among those that the
-/// step which decided looks for (`AnswerTimed`).
+/// step which decided looks for; along a copy it is that of the reference's answer, and other steps have none (`AnswerTimed`).
 ///
 /// An error in an answer is the fault for which that run's house refuses the question: the edition is not open, the series is
 /// not listed, or no step finds a price.

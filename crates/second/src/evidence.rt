@@ -129,7 +129,8 @@ impl Evidence<'_> {
         last
     }
 
-    // The entry on which a step rests, if it looks at entries. An average rests on the last of the trades that are in it.
+    // The last entry that a step looks at, if it looks at entries: it has the time of what the step finds. Of an average that is the last
+    // of the trades in it.
     pub(crate) fn entry_of(&self, letter: char) -> Option<Entry> {
         match letter {
             'A' => self.last(|kind| matches!(kind, Kind::Auction(_))),

@@ -35,10 +35,8 @@ returns-clause-times g c =
     let b = run_in g.L.LadderSet.size g.L.LadderSet.lawful g.B.Book.meaning x.second in
     let n = x.series in
     let ed = x.edition in
-    let plain = to_z-of_z w64 n c.ranges.series in
-    let one = subst (λ z. c.ask_both.result.0 ≡ answer_in a z ed) plain c.ask_both.ensures.one in
-    let other = subst (λ z. c.ask_both.result.1 ≡ answer_in b z ed) plain c.ask_both.ensures.other in
+    let answers = returns-clause-laws g c in
     λ d k. (
-      λ new. subst (AnswerTimed d a n ed) (sym one) (answer_timed d k a n ed (g.met.K.LadderSet.dense (set_of x.first.house.now)) new),
-      λ new. subst (AnswerTimed d b n ed) (sym other) (answer_timed d k b n ed (g.met.L.LadderSet.dense (set_of x.second.house.now)) new),
+      λ new. subst (AnswerTimed d a n ed) (sym answers.one) (answer_timed d k a n ed (g.met.K.LadderSet.dense (set_of x.first.house.now)) new),
+      λ new. subst (AnswerTimed d b n ed) (sym answers.other) (answer_timed d k b n ed (g.met.L.LadderSet.dense (set_of x.second.house.now)) new),
     )

@@ -1,11 +1,12 @@
-use Rattle.std.proofs.Common.{◌≡◌, ◌≤◌, min, length, refl, ap, ◌∙◌, rules, w64, arith}
+use Rattle.std.proofs.Common.{◌≡◌, ◌≤◌, min, length, refl, sym, subst, ap, ◌∙◌, rules, w64, arith}
 use Rattle.std.proofs.lemmas.Int.{to_z-of_z}
 use Rattle.runs.specs.Laws.{calls_taken_in, end_memory, new_run}
 use Rattle.runs.specs.ByCalls.{entries}
 use Rattle.runs.specs.Stored.{filled}
 use Rattle.runs.proofs.Compared.{begun, end_told, laws_begun}
 use Rattle.runs.proofs.StoredEntries.{in_places, stored_in_places}
-use Rattle.runs.proofs.Times.{timed_begun}
+use Rattle.runs.specs.Times.{AnswerTimed}
+use Rattle.runs.proofs.Times.{answer_timed}
 use Rattle.runs.proofs.comparing.compare_makes.Goals as goal
 
 pub returns-clause-laws : goal.returns-clause-laws
@@ -47,24 +48,11 @@ returns-clause-times g c =
     let d = x.day in
     let j = min x.capacity 30000 in
     let k = min (length x.slots.now) 30000 in
-    let size = g.K.LadderSet.size in
-    let lawful = g.K.LadderSet.lawful in
-    let other_size = g.L.LadderSet.size in
-    let other_lawful = g.L.LadderSet.lawful in
-    let house = c.new-house in
-    let other_house = c.new-other_house in
-    let first = new_run size lawful x.set d j x.calls.now in
-    let second = new_run other_size other_lawful x.other_set d k x.other_calls.now in
-    let begins =
-    begun size lawful house.result _ x.set d j x.calls.now house.ensures.state house.ensures.set c.new-board.ensures
-    in
-    let other_begins =
-    begun other_size other_lawful other_house.result _ x.other_set d k x.other_calls.now other_house.ensures.state
-    other_house.ensures.set c.new-tape.ensures.meaning
-    in
-    let plain = to_z-of_z w64 x.series c.ranges.series in (
-      timed_begun _ first _ x.series x.edition c.compare.result.0 d j begins plain refl (c.compare.ensures.times d j).0,
-      timed_begun _ second _ x.series x.edition c.compare.result.1 d k other_begins plain refl (c.compare.ensures.times d k).1,
+    let first = new_run g.K.LadderSet.size g.K.LadderSet.lawful x.set d j x.calls.now in
+    let second = new_run g.L.LadderSet.size g.L.LadderSet.lawful x.other_set d k x.other_calls.now in
+    let answers = returns-clause-laws g c in (
+      subst (AnswerTimed d first x.series x.edition) (sym answers.one) (answer_timed d j first x.series x.edition (g.met.K.LadderSet.dense x.set) refl),
+      subst (AnswerTimed d second x.series x.edition) (sym answers.other) (answer_timed d k second x.series x.edition (g.met.L.LadderSet.dense x.other_set) refl),
     )
 
 pub returns-clause-slots : goal.returns-clause-slots

@@ -15,4 +15,4 @@ returns-clause-reach g c =
     let near = finds_reach P (g.met.L.LadderSet.dense a.set.now a.series.terms.ladder) a.number count (price_of a.reference) a.series c.figures-figures.result c.args.place.step a.lawful a.reach bounds in
     let price = c.in_ok-price.price in
     let fits : SFits w64 price = search rules in
-    subst (λ (z : ℤ). nat_abs z ≤ reach a.number) (sym (to_z-of_z w64 price fits)) (subst (InReach a.number) (sym c.find.ensures ∙ c.in_ok-price.was) near)
+    subst (λ (z : ℤ). nat_abs z ≤ reach a.number) (sym (to_z-of_z w64 price fits)) (subst (InReach a.number) (sym c.price_found.ensures ∙ c.in_ok-price.was) near)

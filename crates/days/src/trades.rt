@@ -1,15 +1,15 @@
-// The trades and auctions that were taken in a day, to see where an answer had to choose between two.
+// The trades and auctions that were taken in a day, and which answers tell one of them where another stands beside it.
 use std::alloc::{AllocError, Global};
 use std::str;
 
 #[derive(Clone, Copy)]
-struct Deal {
+struct Trade {
     series: i64,
     stamp: i64,
     price: i64,
 }
 
-// Why an answer tells one deal and not another of its series.
+// Why an answer tells one trade and not another of its series.
 #[derive(Clone, Copy)]
 pub(crate) enum Choice {
     // L: the other has the same stamp and another price.
@@ -19,22 +19,22 @@ pub(crate) enum Choice {
 }
 
 #[derive(Drop)]
-pub(crate) struct Deals {
+pub(crate) struct Trades {
     alloc: Global,
-    taken: Vec<Deal>,
+    taken: Vec<Trade>,
 }
 
-fn deal_by(series: &str, stamp: &str, price: &str) -> Option<Deal> {
-    Some(Deal {
+fn trade_by(series: &str, stamp: &str, price: &str) -> Option<Trade> {
+    Some(Trade {
         series: series.parse().ok()?,
         stamp: stamp.parse().ok()?,
         price: price.parse().ok()?,
     })
 }
 
-impl Deals {
-    pub(crate) fn new(alloc: Global) -> Deals {
-        Deals {
+impl Trades {
+    pub(crate) fn new(alloc: Global) -> Trades {
+        Trades {
             alloc,
             taken: Vec::new(alloc),
         }
@@ -45,29 +45,32 @@ impl Deals {
         let line = str::from_utf8(line).unwrap_or("");
         let words: Vec<&str> = line.split(' ').collect(self.alloc)?;
         if let ["trade" | "auction", series, stamp, price, _] = words.as_slice() {
-            if let Some(deal) = deal_by(series, stamp, price) {
-                self.taken.push(deal)?;
+            if let Some(trade) = trade_by(series, stamp, price) {
+                self.taken.push(trade)?;
             }
         }
         Ok(())
     }
 
-    // The choice that an answer made, if it is a price that had to.
+    // Which other trade an answer leaves out, if it is a price beside which one stands.
     pub(crate) fn choice_of(&self, answer: &str) -> Result<Option<Choice>, AllocError> {
         let words: Vec<&str> = answer.split(' ').collect(self.alloc)?;
         let ["price", series, price, step, _, time] = words.as_slice() else {
             return Ok(None);
         };
-        let Some(told) = deal_by(series, time, price) else {
+        let Some(told) = trade_by(series, time, price) else {
             return Ok(None);
         };
-        let mut others = self.taken.iter().filter(|deal| deal.series == told.series);
+        let mut others = self
+            .taken
+            .iter()
+            .filter(|trade| trade.series == told.series);
         let choice = match *step {
             "L" => others
-                .any(|deal| deal.stamp == told.stamp && deal.price != told.price)
+                .any(|trade| trade.stamp == told.stamp && trade.price != told.price)
                 .then_some(Choice::EqualStamps),
             "V" => others
-                .any(|deal| deal.stamp > told.stamp)
+                .any(|trade| trade.stamp > told.stamp)
                 .then_some(Choice::Window),
             _ => None,
         };
