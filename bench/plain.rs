@@ -412,7 +412,7 @@ impl House {
             Some(r) if row.iter().any(|(s, _)| matches!(s, b'S' | b'P' | b'C')) => Some(self.answer(r, morning)),
             _ => None,
         };
-        let before = reference.and_then(|r| r.ok());
+        let settled = reference.and_then(|r| r.ok());
         let tick = self.ticks[terms.ladder];
         for (place, (step, window)) in row.iter().enumerate() {
             let figures = &self.figures[n][window.saturating_sub(1)];
@@ -423,9 +423,9 @@ impl House {
                 b'V' => figures.trade.map(|l| (nearest(tick, figures.money, figures.lots), Some(l.stamp))),
                 b'T' => series.theory.map(|v| (nearest(tick, v, 1), None)),
                 b'U' => series.theory.map(|v| (up(tick, v), None)),
-                b'S' => before.and_then(|b| figures.spread.map(|l| (b.price - l.value, Some(l.stamp)))),
-                b'P' => before.and_then(|b| terms.spread.map(|v| (b.price - v, None))),
-                b'C' => before.map(|b| (b.price, b.time)),
+                b'S' => settled.and_then(|b| figures.spread.map(|l| (b.price - l.value, Some(l.stamp)))),
+                b'P' => settled.and_then(|b| terms.spread.map(|v| (b.price - v, None))),
+                b'C' => settled.map(|b| (b.price, b.time)),
                 b'B' => terms.settlement.map(|v| (v, None)),
                 _ => series.ruling.map(|(v, _)| (v, None)),
             };

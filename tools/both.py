@@ -141,16 +141,17 @@ class House:
         if first:
             return value, "D", 0, "-"
         reference, row = self.listed[series][2], self.row(series, edition).split()
-        before = None if reference is None else self.settled(reference, edition)
-        price, *_, time = before if isinstance(before, tuple) else (None, "-")
+        reference_answer = None if reference is None else self.settled(reference, edition)
+        price, *_, reference_time = reference_answer if isinstance(reference_answer, tuple) else (None, "-")
         for place, step in enumerate(row, 1):
             letter, window = step[0], int(step[1:] or 0)
             evidence = self.evidence(series, window, letter)
             found = self.find(series, letter, evidence, price)
             if found is not None:
-                return found, letter, place, time if letter == "C" else evidence[-1][2] if evidence else "-"
+                own_time = evidence[-1][2] if evidence else "-"
+                return found, letter, place, reference_time if letter == "C" else own_time
         refers = any(step[0] in "SPC" for step in row)
-        return before if refers and isinstance(before, int) else series
+        return reference_answer if refers and isinstance(reference_answer, int) else series
 
     def settle(self, series, edition):
         demand(self.phase == "closed" or self.phase == "trading" and edition == "morning", 2)

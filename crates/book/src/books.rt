@@ -45,8 +45,8 @@ pub trait Book {
         ensures after { meaning self.new ≡ take_after (meaning self.old) entry }
         ensures memory { memory self.new ≡ memory_after with_stored (meaning self.old) entry (memory self.old) };
 
-    /// The figures of a series and a window; empty outside series 0 to 31 and windows 1 to 13. Raw numbers, since a narrower
-    /// type would ask more of callers.
+    /// The figures of a series and a window, each last one with its stamp; empty outside series 0 to 31 and windows 1 to 13. Raw
+    /// numbers, since a narrower type would ask more of callers.
     fn figures(&self, series: u8, window: u8) -> Figures
         ensures { result ≡ (meaning self.now).figures series window };
 

@@ -128,10 +128,9 @@ impl<'a> Bench<'a> {
         if answer == "done" {
             self.trades.keep(line)?;
         }
-        if let Some(choice) = self.trades.choice_of(answer)? {
-            tally.add_choice(choice);
+        if let Some(left_out) = self.trades.left_out_by(answer)? {
+            tally.add_left_out(left_out);
         }
-        tally.add_answer(answer);
-        Ok(())
+        tally.add_answer(answer)
     }
 }

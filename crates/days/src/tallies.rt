@@ -1,5 +1,5 @@
 // How many answers of each kind there were.
-use crate::trades::Choice;
+use crate::trades::LeftOut;
 use anyhow::ensure;
 use std::alloc::{AllocError, Global};
 
@@ -22,6 +22,7 @@ struct Count {
 
 #[derive(Drop)]
 pub(crate) struct Tally {
+    alloc: Global,
     days: u64,
     lines: u64,
     short: u64,
@@ -30,8 +31,8 @@ pub(crate) struct Tally {
     with_time: Vec<Count>,
     without_time: Vec<Count>,
     first_marks: u64,
-    equal_stamps: u64,
-    windows: u64,
+    of_one_stamp: u64,
+    later_outside: u64,
     refusals: Vec<Count>,
     // Answers that the rules do not have.
     unknown: u64,
@@ -80,6 +81,7 @@ fn show_all(rt: &impl Print, what: &str, counts: &[Count]) -> anyhow::Result<()>
 impl Tally {
     pub(crate) fn new(alloc: Global) -> Result<Tally, AllocError> {
         Ok(Tally {
+            alloc,
             days: 0,
             lines: 0,
             short: 0,
@@ -88,8 +90,8 @@ impl Tally {
             with_time: counts(alloc, &WITH_TIME)?,
             without_time: counts(alloc, &WITHOUT_TIME)?,
             first_marks: 0,
-            equal_stamps: 0,
-            windows: 0,
+            of_one_stamp: 0,
+            later_outside: 0,
             refusals: counts(alloc, &REFUSALS)?,
             unknown: 0,
         })
@@ -103,51 +105,48 @@ impl Tally {
         add_one(&mut self.short);
     }
 
-    pub(crate) fn add_choice(&mut self, choice: Choice) {
-        match choice {
-            Choice::EqualStamps => add_one(&mut self.equal_stamps),
-            Choice::Window => add_one(&mut self.windows),
+    pub(crate) fn add_left_out(&mut self, left_out: LeftOut) {
+        match left_out {
+            LeftOut::OfOneStamp => add_one(&mut self.of_one_stamp),
+            LeftOut::LaterOutside => add_one(&mut self.later_outside),
         }
     }
 
     // An answer, told by its first word, and what it names: the step, its place and the time of a price, or a refusal.
-    pub(crate) fn add_answer(&mut self, answer: &str) {
+    pub(crate) fn add_answer(&mut self, answer: &str) -> Result<(), AllocError> {
         add_one(&mut self.lines);
-        let mut words = answer.split(' ');
-        let known = match words.next() {
-            Some("done") => {
+        let words: Vec<&str> = answer.split(' ').collect(self.alloc)?;
+        let known = match words.as_slice() {
+            ["done"] => {
                 add_one(&mut self.done);
                 true
             }
-            Some("listed") => {
+            ["listed", _] => {
                 add_one(&mut self.listed);
                 true
             }
-            Some("price") => {
-                let step = words.nth(2).unwrap_or("");
-                let place = words.next().unwrap_or("");
-                self.add_price(step, place, words.next().unwrap_or(""))
-            }
-            Some("refused") => add_one_of(&mut self.refusals, words.next().unwrap_or("")),
+            ["price", _, _, step, place, "-"] => self.add_untimed(step, place),
+            ["price", _, _, step, _, _] => add_one_of(&mut self.with_time, step),
+            ["refused", number @ ("10" | "11"), _] => add_one_of(&mut self.refusals, number),
+            ["refused", "10" | "11"] => false,
+            ["refused", number] => add_one_of(&mut self.refusals, number),
             _ => false,
         };
         if !known {
             add_one(&mut self.unknown);
         }
+        Ok(())
     }
 
-    // Whether there is a price by that step with a time, or with none.
-    fn add_price(&mut self, step: &str, place: &str, time: &str) -> bool {
-        if time != "-" {
-            return add_one_of(&mut self.with_time, step);
-        }
+    // A price by that step that has no time. Whether there is such a price.
+    fn add_untimed(&mut self, step: &str, place: &str) -> bool {
         if place == "0" {
             add_one(&mut self.first_marks);
         }
         add_one_of(&mut self.without_time, step)
     }
 
-    // Fails if a step, a refusal or a choice was never met.
+    // Fails if one of the kinds was never met.
     pub(crate) fn print(&self, rt: &impl Print) -> anyhow::Result<()> {
         println!(rt; "days: {}", self.days)?;
         println!(rt; "lines: {}", self.lines)?;
@@ -159,6 +158,10 @@ impl Tally {
         )?;
         println!(rt; "done: {}", self.done)?;
         println!(rt; "listed: {}", self.listed)?;
+        ensure!(
+            self.done > 0 && self.listed > 0,
+            "nothing was done or listed"
+        );
         show_all(rt, "price with a time by", self.with_time.as_slice())?;
         show_all(rt, "price without a time by", self.without_time.as_slice())?;
         show(
@@ -171,13 +174,13 @@ impl Tally {
             rt,
             "price by L",
             "of two trades of one stamp",
-            self.equal_stamps,
+            self.of_one_stamp,
         )?;
         show(
             rt,
             "price by V",
             "with a later trade outside its window",
-            self.windows,
+            self.later_outside,
         )?;
         show_all(rt, "refused", self.refusals.as_slice())?;
         ensure!(self.unknown == 0, "an answer is none of the rules");

@@ -9,13 +9,13 @@ struct Trade {
     price: i64,
 }
 
-// Why an answer tells one trade and not another of its series.
+// Which other trade of its series an answer leaves out.
 #[derive(Clone, Copy)]
-pub(crate) enum Choice {
-    // L: the other has the same stamp and another price.
-    EqualStamps,
-    // V: the other is later and outside the window.
-    Window,
+pub(crate) enum LeftOut {
+    // By L: one of the same stamp and another price.
+    OfOneStamp,
+    // By V: one that is later, and so outside the window.
+    LaterOutside,
 }
 
 #[derive(Drop)]
@@ -52,8 +52,8 @@ impl Trades {
         Ok(())
     }
 
-    // Which other trade an answer leaves out, if it is a price beside which one stands.
-    pub(crate) fn choice_of(&self, answer: &str) -> Result<Option<Choice>, AllocError> {
+    // Why the answer leaves another trade out, if it does.
+    pub(crate) fn left_out_by(&self, answer: &str) -> Result<Option<LeftOut>, AllocError> {
         let words: Vec<&str> = answer.split(' ').collect(self.alloc)?;
         let ["price", series, price, step, _, time] = words.as_slice() else {
             return Ok(None);
@@ -65,15 +65,15 @@ impl Trades {
             .taken
             .iter()
             .filter(|trade| trade.series == told.series);
-        let choice = match *step {
+        let left_out = match *step {
             "L" => others
                 .any(|trade| trade.stamp == told.stamp && trade.price != told.price)
-                .then_some(Choice::EqualStamps),
+                .then_some(LeftOut::OfOneStamp),
             "V" => others
                 .any(|trade| trade.stamp > told.stamp)
-                .then_some(Choice::Window),
+                .then_some(LeftOut::LaterOutside),
             _ => None,
         };
-        Ok(choice)
+        Ok(left_out)
     }
 }

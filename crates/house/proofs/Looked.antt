@@ -150,18 +150,18 @@ ruling_reach n None h = tt
 ruling_reach n (Some r) h = price_reach n r.value h
 
 -- whatever a step finds is in reach, where the reference's price is a spread short of it
-pub finds_reach : (P : ℤ → Bool) → ((z : ℤ) → Near P z) → (n k : ℕ) (p : Option ℤ) (s : Series) (f : Figures) (step : Step) → lawful_series n s ≡ true → InReachBefore n p → bounded k f ≡ true → InReach n (price_found P p s f step)
-finds_reach P near n k p s f Auction h r b = last_reach n f.auction (parts k f b).auction
-finds_reach P near n k p s f Trade h r b = last_reach n f.trade (parts k f b).trade
-finds_reach P near n k p s f Quote h r b = quote_reach P near n (last_value f.quote)
-finds_reach P near n k p s f Average h r b = nearest_reach P near n f.money (nat_abs f.lots)
-finds_reach P near n k p s f Theory h r b = (theory_reach P near n s.theory).0
-finds_reach P near n k p s f TheoryUp h r b = (theory_reach P near n s.theory).1
-finds_reach P near n k p s f Spread h r b = less_reach n p (last_value f.spread) r (last_spread_within k f b)
-finds_reach P near n k p s f PreviousSpread h r b = less_reach n p s.terms.previous_spread r (previous_spread_within n s h)
-finds_reach P near n k p s f Copy h r b = before_reach n p r
-finds_reach P near n k p s f Previous h r b = within_reach n s.terms.previous_settlement (series_parts n s h).previous_settlement
-finds_reach P near n k p s f Ruling h r b = ruling_reach n s.ruling (series_parts n s h).ruling
+pub price_found_reach : (P : ℤ → Bool) → ((z : ℤ) → Near P z) → (n k : ℕ) (p : Option ℤ) (s : Series) (f : Figures) (step : Step) → lawful_series n s ≡ true → InReachBefore n p → bounded k f ≡ true → InReach n (price_found P p s f step)
+price_found_reach P near n k p s f Auction h r b = last_reach n f.auction (parts k f b).auction
+price_found_reach P near n k p s f Trade h r b = last_reach n f.trade (parts k f b).trade
+price_found_reach P near n k p s f Quote h r b = quote_reach P near n (last_value f.quote)
+price_found_reach P near n k p s f Average h r b = nearest_reach P near n f.money (nat_abs f.lots)
+price_found_reach P near n k p s f Theory h r b = (theory_reach P near n s.theory).0
+price_found_reach P near n k p s f TheoryUp h r b = (theory_reach P near n s.theory).1
+price_found_reach P near n k p s f Spread h r b = less_reach n p (last_value f.spread) r (last_spread_within k f b)
+price_found_reach P near n k p s f PreviousSpread h r b = less_reach n p s.terms.previous_spread r (previous_spread_within n s h)
+price_found_reach P near n k p s f Copy h r b = before_reach n p r
+price_found_reach P near n k p s f Previous h r b = within_reach n s.terms.previous_settlement (series_parts n s h).previous_settlement
+price_found_reach P near n k p s f Ruling h r b = ruling_reach n s.ruling (series_parts n s h).ruling
 
 -- a ruling that stands with the first mark is the answer, and within the limit
 pub ruled_at_once : (n : ℕ) (s : Series) (r : rulings.Ruling) (more : Answer) → lawful_series n s ≡ true → s.ruling ≡ Some r → r.first ≡ true → (Ok (record { price = r.value; step = Ruling; place = 0; time = None }) ≡ ruled_first s.ruling more) × (nat_abs r.value ≤ reach n)

@@ -52,8 +52,8 @@ abbrev pub IsStampOf : {V : Type 0} → Option (Last V) → Option ℤ → Type 
 IsStampOf None time = time ≡ None
 IsStampOf (Some l) time = time ≡ Some l.stamp
 
--- the step has this time, with that of the reference's answer and the figures of the step's window. An average has the last trade's;
--- what is supplied or was settled before has none
+-- the step has this time, with that of the reference's answer and the figures of the step's window. An average has the last trade's,
+-- a copy the reference's, and T, U, P, B and D have none
 abbrev pub HasTime : Option ℤ → Figures → Step → Option ℤ → Type 0
 HasTime reference_time f Auction time = IsStampOf f.auction time
 HasTime reference_time f Trade time = IsStampOf f.trade time

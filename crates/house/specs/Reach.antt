@@ -12,6 +12,7 @@ reach n = 1001000000 + n * 100000000
 abbrev pub InReach : ℕ → Option ℤ → Type 0
 InReach n p = IfSome p (λ v. unsigned_abs v ≤ reach n)
 
+-- with whatever time
 abbrev pub TimedInReach : ℕ → Option TimedPrice → Type 0
 TimedInReach n p = IfSome p (λ v. unsigned_abs v.price ≤ reach n)
 

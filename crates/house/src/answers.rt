@@ -10,8 +10,8 @@ pub struct Settlement {
     pub step: Step,
     /// The step's place in its row, counted from 1; 0 for a ruling with the first mark.
     pub place: u8,
-    /// The stamp of the evidence that decided, in seconds from the midnight that begins the evening session's date; none where the
-    /// step finds its price without an entry.
+    /// The stamp of the evidence that decided, in seconds from the midnight that begins the evening session's date. None where the
+    /// step has no time: T, U, P, B, D, and C where the reference's answer has none.
     pub time: Option<i32>,
 }
 

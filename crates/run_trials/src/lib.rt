@@ -48,16 +48,16 @@ mod tests {
         })
     }
 
-    fn enter(series: i64, kind: Kind) -> Call {
+    fn enter(series: i64, stamp: i64, kind: Kind) -> Call {
         Call::Enter(Entry {
             series,
-            stamp: 140_000,
+            stamp,
             kind,
         })
     }
 
     fn trade(series: i64, price: i64) -> Call {
-        enter(series, Kind::Trade { price, lots: 1 })
+        enter(series, 140_000, Kind::Trade { price, lots: 1 })
     }
 
     fn theory(value: i64) -> Call {
@@ -111,7 +111,7 @@ mod tests {
             series: 0,
             edition: Edition::Morning,
         };
-        let leg = enter(0, Kind::Leg { price: 90, lots: 9 });
+        let leg = enter(0, 141_000, Kind::Leg { price: 90, lots: 9 });
         let calls = [list(1, None), list(9, None), OPEN, trade(0, 50), CLOSE];
         let other_calls = [
             list(1, None),
@@ -147,6 +147,7 @@ mod tests {
         let quote = |ask| {
             enter(
                 0,
+                139_999,
                 Kind::Quote {
                     bid: Some(100),
                     ask: Some(ask),
@@ -156,15 +157,15 @@ mod tests {
         let calls = [list(10, None), OPEN, quote(120), trade(0, 90), CLOSE];
         let other_calls = [list(10, None), OPEN, quote(130), trade(0, 110), CLOSE];
         let (first, second) = both(&calls, &other_calls, 0)?;
-        assert_eq!(rt; first, settlement(110, Step::Quote, 2, Some(140_000)));
-        assert_eq!(rt; second, settlement(120, Step::Quote, 2, Some(140_000)));
+        assert_eq!(rt; first, settlement(110, Step::Quote, 2, Some(139_999)));
+        assert_eq!(rt; second, settlement(120, Step::Quote, 2, Some(139_999)));
         Ok(())
     }
 
     // A trade stands among further ones, and an auction comes before it.
     #[test]
     fn more_entries_settle_no_later(rt: HostRuntime) -> Result<(), Fail> {
-        let auction = enter(0, Kind::Auction { price: 80, lots: 2 });
+        let auction = enter(0, 142_000, Kind::Auction { price: 80, lots: 2 });
         let calls = [list(3, None), OPEN, trade(0, 50), CLOSE];
         let other_calls = [
             list(3, None),
@@ -176,19 +177,19 @@ mod tests {
         ];
         let (first, second) = both(&calls, &other_calls, 0)?;
         assert_eq!(rt; first, settlement(50, Step::Trade, 3, Some(140_000)));
-        assert_eq!(rt; second, settlement(80, Step::Auction, 1, Some(140_000)));
+        assert_eq!(rt; second, settlement(80, Step::Auction, 1, Some(142_000)));
         Ok(())
     }
 
     // An auction in the afternoon comes before the theory value.
     #[test]
     fn more_evidence_settles_no_later(rt: HostRuntime) -> Result<(), Fail> {
-        let auction = enter(0, Kind::Auction { price: 80, lots: 2 });
+        let auction = enter(0, 142_000, Kind::Auction { price: 80, lots: 2 });
         let calls = [list(1, None), theory(100), OPEN, CLOSE];
         let other_calls = [list(1, None), theory(100), OPEN, auction, CLOSE];
         let (first, second) = both(&calls, &other_calls, 0)?;
         assert_eq!(rt; first, settlement(100, Step::Theory, 3, None));
-        assert_eq!(rt; second, settlement(80, Step::Auction, 1, Some(140_000)));
+        assert_eq!(rt; second, settlement(80, Step::Auction, 1, Some(142_000)));
         Ok(())
     }
 

@@ -64,24 +64,24 @@ last_value_more (Some o) None h there = h refl
 last_value_more (Some o) (Some p) h there = refl
 
 -- a step that finds a price in the first finds one in the second
-finds_more : (P : ℤ → Bool) (r q : Option ℤ) (s : Series) (f g : Figures) (k l : ℕ) → bounded k f ≡ true → bounded l g ≡ true
+price_found_more : (P : ℤ → Bool) (r q : Option ℤ) (s : Series) (f g : Figures) (k l : ℕ) → bounded k f ≡ true → bounded l g ≡ true
     → StillThere r q → FiguresMore f g → (step : Step) → StillThere (price_found P r s f step) (price_found P q s g step)
-finds_more P r q s f g k l lf lg reference more Auction = last_value_more f.auction g.auction more.auction
-finds_more P r q s f g k l lf lg reference more Trade = last_value_more f.trade g.trade more.trade
-finds_more P r q s f g k l lf lg reference more Quote =
+price_found_more P r q s f g k l lf lg reference more Auction = last_value_more f.auction g.auction more.auction
+price_found_more P r q s f g k l lf lg reference more Trade = last_value_more f.trade g.trade more.trade
+price_found_more P r q s f g k l lf lg reference more Quote =
     subst (λ (o : Bool). is_some (quoted P (last_value f.quote)) ≡ true → o ≡ true)
     (ap (λ o. is_some (quoted P (last_value o))) more.quote)
     (λ there. there)
-finds_more P r q s f g k l lf lg reference more Average = average_more P k l f g lf lg more.lots
-finds_more P r q s f g k l lf lg reference more Theory = λ there. there
-finds_more P r q s f g k l lf lg reference more TheoryUp = λ there. there
-finds_more P r q s f g k l lf lg reference more Spread =
+price_found_more P r q s f g k l lf lg reference more Average = average_more P k l f g lf lg more.lots
+price_found_more P r q s f g k l lf lg reference more Theory = λ there. there
+price_found_more P r q s f g k l lf lg reference more TheoryUp = λ there. there
+price_found_more P r q s f g k l lf lg reference more Spread =
     less_more r q (last_value f.spread) (last_value g.spread) reference (last_value_more f.spread g.spread more.spread)
-finds_more P r q s f g k l lf lg reference more PreviousSpread =
+price_found_more P r q s f g k l lf lg reference more PreviousSpread =
     less_more r q s.terms.previous_spread s.terms.previous_spread reference (λ there. there)
-finds_more P r q s f g k l lf lg reference more Copy = reference
-finds_more P r q s f g k l lf lg reference more Previous = λ there. there
-finds_more P r q s f g k l lf lg reference more Ruling = λ there. there
+price_found_more P r q s f g k l lf lg reference more Copy = reference
+price_found_more P r q s f g k l lf lg reference more Previous = λ there. there
+price_found_more P r q s f g k l lf lg reference more Ruling = λ there. there
 
 -- and so with whatever times
 timed_more : (v w t u : Option ℤ) → StillThere v w → StillThere (timed v t) (timed w u)
@@ -153,7 +153,7 @@ module _ (P : ℕ → ℤ → Bool) (ed : Edition) where
       let w = window_number p.window in
       timed_more _ _ (place_time t x p) (place_time u y p)
       (subst (λ (s : Series). StillThere (price_found (P x.series.terms.ladder) r x.series (x.figures w) p.step) (price_found (P s.terms.ladder) q s (y.figures w) p.step)) more.series
-      (finds_more (P x.series.terms.ladder) r q x.series (x.figures w) (y.figures w) (lx.figures w).0 (ly.figures w).0
+      (price_found_more (P x.series.terms.ladder) r q x.series (x.figures w) (y.figures w) (lx.figures w).0 (ly.figures w).0
       (lx.figures w).1 (ly.figures w).1 reference (more.figures w) p.step))
 
   answered_more : (x y : Station) (u v : Option Answer) → LawfulPair StationMore x y → Matched NoLater u v

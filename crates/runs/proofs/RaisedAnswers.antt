@@ -150,28 +150,28 @@ module _ (P : ℤ → Bool) (near : (z : ℤ) → Near P z) where
       by false c p q = absurd (false≢true p)
 
   -- each step finds a price in both or in neither, and no lower one
-  finds_raised : (r q : Option ℤ) (s t : Series) (f g : Figures) (k l : ℕ) → side_lawful s.theory ≡ true
+  price_found_raised : (r q : Option ℤ) (s t : Series) (f g : Figures) (k l : ℕ) → side_lawful s.theory ≡ true
       → side_lawful t.theory ≡ true → bounded k f ≡ true → bounded l g ≡ true → ValueRaised r q → SeriesRaised s t
       → FiguresRaised f g → (step : Step) → ValueRaised (price_found P r s f step) (price_found P q t g step)
-  finds_raised r q s t f g k l ls lt lf lg reference series figures Auction =
+  price_found_raised r q s t f g k l ls lt lf lg reference series figures Auction =
       last_value_raised ◌≤ℤ◌ f.auction g.auction figures.auction
-  finds_raised r q s t f g k l ls lt lf lg reference series figures Trade = last_value_raised ◌≤ℤ◌ f.trade g.trade figures.trade
-  finds_raised r q s t f g k l ls lt lf lg reference series figures Quote =
+  price_found_raised r q s t f g k l ls lt lf lg reference series figures Trade = last_value_raised ◌≤ℤ◌ f.trade g.trade figures.trade
+  price_found_raised r q s t f g k l ls lt lf lg reference series figures Quote =
       quoted_raised f.quote g.quote (parts k f lf).quote (parts l g lg).quote figures.quote
-  finds_raised r q s t f g k l ls lt lf lg reference series figures Average = average_raised k l f g lf lg figures
-  finds_raised r q s t f g k l ls lt lf lg reference series figures Theory =
+  price_found_raised r q s t f g k l ls lt lf lg reference series figures Average = average_raised k l f g lf lg figures
+  price_found_raised r q s t f g k l ls lt lf lg reference series figures Theory =
       nearest_theory_raised s.theory t.theory ls lt series.theory
-  finds_raised r q s t f g k l ls lt lf lg reference series figures TheoryUp =
+  price_found_raised r q s t f g k l ls lt lf lg reference series figures TheoryUp =
       above_theory_raised s.theory t.theory ls lt series.theory
-  finds_raised r q s t f g k l ls lt lf lg reference series figures Spread =
+  price_found_raised r q s t f g k l ls lt lf lg reference series figures Spread =
       subst (λ (o : Option (Last ℤ)). ValueRaised (less r (last_value f.spread)) (less q (last_value o))) figures.spread
       (less_raised r q (last_value f.spread) reference)
-  finds_raised r q s t f g k l ls lt lf lg reference series figures PreviousSpread =
+  price_found_raised r q s t f g k l ls lt lf lg reference series figures PreviousSpread =
       subst (λ (o : Option ℤ). ValueRaised (less r s.terms.previous_spread) (less q o)) series.previous_spread
       (less_raised r q s.terms.previous_spread reference)
-  finds_raised r q s t f g k l ls lt lf lg reference series figures Copy = reference
-  finds_raised r q s t f g k l ls lt lf lg reference series figures Previous = series.previous_settlement
-  finds_raised r q s t f g k l ls lt lf lg reference series figures Ruling = ruled_raised s.ruling t.ruling series.ruling
+  price_found_raised r q s t f g k l ls lt lf lg reference series figures Copy = reference
+  price_found_raised r q s t f g k l ls lt lf lg reference series figures Previous = series.previous_settlement
+  price_found_raised r q s t f g k l ls lt lf lg reference series figures Ruling = ruled_raised s.ruling t.ruling series.ruling
 
 -- each step has the same time in both
 same_time : (u v : Option ℤ) (f g : Figures) → u ≡ v → FiguresRaised f g → (step : Step) → time_found u f step ≡ time_found v g step
@@ -277,7 +277,7 @@ module _ (P : ℕ → ℤ → Bool) (near : (n : ℕ) (z : ℤ) → Near (P n) z
       let w = window_number p.window in
       timed_raised _ _ (place_time t x p) (place_time u y p)
       (subst (λ (n : ℕ). ValueRaised (price_found (P x.series.terms.ladder) r x.series (x.figures w) p.step) (price_found (P n) q y.series (y.figures w) p.step)) rise.series.ladder
-      (finds_raised (P x.series.terms.ladder) (near x.series.terms.ladder) r q x.series y.series (x.figures w) (y.figures w)
+      (price_found_raised (P x.series.terms.ladder) (near x.series.terms.ladder) r q x.series y.series (x.figures w) (y.figures w)
       (lx.figures w).0 (ly.figures w).0
       (series_parts x.number x.series lx.series).theory (series_parts y.number y.series ly.series).theory (lx.figures w).1
       (ly.figures w).1

@@ -40,17 +40,17 @@ use Rattle.house.proofs.Paths.{earlier, of_reference, settled_with}
 use Rattle.calls.specs.Worlds.{new_world}
 use Rattle.runs.specs.ByCalls.{entries, series_after}
 use Rattle.runs.specs.Laws.{Outcome, RunMeaning, answer_in, calls_taken_in, end_world}
-use Rattle.runs.specs.Times.{AnswerTimed, TimeByStep, TimeOfOne, TimeTold, TimedBy}
+use Rattle.runs.specs.Times.{AnswerTimed, TimeByStep, TimeOfOne, TimeTold, TimeOfEntry}
 use Rattle.runs.specs.Told.{Told}
 use Rattle.runs.proofs.Compared.{end_told}
 
 -- ---- one figure
 
 -- where a last figure has this value, its stamp is that of the entry that stands last
-timed_by : {V : Type 0} (has : Kind → Option V) (n : ℕ) (window : ℤ × ℤ) (es : List Entry) (o : Option (Last V)) (time : Option ℤ) (v : V)
-    → last_value o ≡ Some v → IsStampOf o time → LastOf (pick has n window) es o → TimedBy has n window es time v
-timed_by has n window es None time v h t last = absurd (none-some v h)
-timed_by {V} has n window es (Some l) time v h t last =
+time_of_entry : {V : Type 0} (has : Kind → Option V) (n : ℕ) (window : ℤ × ℤ) (es : List Entry) (o : Option (Last V)) (time : Option ℤ) (v : V)
+    → last_value o ≡ Some v → IsStampOf o time → LastOf (pick has n window) es o → TimeOfEntry has n window es time v
+time_of_entry has n window es None time v h t last = absurd (none-some v h)
+time_of_entry {V} has n window es (Some l) time v h t last =
     let value = same_Some l.value v h in
     (l.stamp, t, subst (λ (w : V). StandsLast (pick has n window) es (record { stamp = l.stamp; value = w })) value last)
 
@@ -86,15 +86,15 @@ module _ (P : ℤ → Bool) (m : Ledger) (es : List Entry) (known : Evidence m e
   window = edges m.day w
 
   by_step : (step : Step) → FindsPrice P (price_of u) s f step t.price → HasTime (time_of u) f step t.time → TimeByStep OfReference n window es step t
-  by_step Auction h time = timed_by auction_price n window es f.auction t.time t.price h time (known.auction n w)
-  by_step Trade h time = timed_by trade_price n window es f.trade t.time t.price h time (known.trade n w)
+  by_step Auction h time = time_of_entry auction_price n window es f.auction t.time t.price h time (known.auction n w)
+  by_step Trade h time = time_of_entry trade_price n window es f.trade t.time t.price h time (known.trade n w)
   by_step Quote (bid, ask, h, near) time =
       let q : Sides = record { bid = Some bid; ask = Some ask } in
-      (q, timed_by quote_sides n window es f.quote t.time q h time (known.quote n w))
+      (q, time_of_entry quote_sides n window es f.quote t.time q h time (known.quote n w))
   by_step Average h time =
       let some = (inside_range f.money (nat_abs f.lots) h.0).0 in
       let (l, is) = some_trade n window es f.trade f.lots some (known.lots n w) (known.trade n w) in
-      (l.value, timed_by trade_price n window es f.trade t.time l.value (ap last_value is) time (known.trade n w))
+      (l.value, time_of_entry trade_price n window es f.trade t.time l.value (ap last_value is) time (known.trade n w))
   by_step Theory h time = time
   by_step TheoryUp h time = time
   by_step Spread (r, v, h, k, e) time =
@@ -102,7 +102,7 @@ module _ (P : ℤ → Bool) (m : Ledger) (es : List Entry) (known : Evidence m e
       let difference : v ≡ b.price -ℤ t.price = omega (arith, ints) in (
         b,
         reference_told b is,
-        timed_by spread_value n window es f.spread t.time (b.price -ℤ t.price) (k ∙ ap Some difference) time (known.spread n w),
+        time_of_entry spread_value n window es f.spread t.time (b.price -ℤ t.price) (k ∙ ap Some difference) time (known.spread n w),
       )
   by_step PreviousSpread h time = time
   by_step Copy h time =

@@ -18,20 +18,20 @@ use Rattle.runs.specs.Laws.{Outcome, RunMeaning, answer_in, calls_taken_in}
 
 -- the time is the stamp of an entry that was taken for the series numbered n in a window with these edges, of a kind that has such a
 -- value; it has the value v, and is the last of them: none taken before it has a later stamp, and none taken after it as late a one
-abbrev pub TimedBy : {V : Type 0} → (Kind → Option V) → ℕ → ℤ × ℤ → List Entry → Option ℤ → V → Type 0
-TimedBy has n window es time v = (t : ℤ) × (time ≡ Some t) × StandsLast (pick has n window) es (record { stamp = t; value = v })
+abbrev pub TimeOfEntry : {V : Type 0} → (Kind → Option V) → ℕ → ℤ × ℤ → List Entry → Option ℤ → V → Type 0
+TimeOfEntry has n window es time v = (t : ℤ) × (time ≡ Some t) × StandsLast (pick has n window) es (record { stamp = t; value = v })
 
 -- the time of a settlement of the series numbered n by a step that looks in this window. A settlement of the reference is one of
 -- which `OfReference` holds. An auction counts as a trade; A and L have the price of that entry too, and S its difference
 abbrev pub TimeByStep : (Settlement → Type 0) → ℕ → ℤ × ℤ → List Entry → Step → Settlement → Type 0
-TimeByStep OfReference n window es Auction s = TimedBy auction_price n window es s.time s.price
-TimeByStep OfReference n window es Trade s = TimedBy trade_price n window es s.time s.price
-TimeByStep OfReference n window es Quote s = (q : Sides) × TimedBy quote_sides n window es s.time q
-TimeByStep OfReference n window es Average s = (p : ℤ) × TimedBy trade_price n window es s.time p
+TimeByStep OfReference n window es Auction s = TimeOfEntry auction_price n window es s.time s.price
+TimeByStep OfReference n window es Trade s = TimeOfEntry trade_price n window es s.time s.price
+TimeByStep OfReference n window es Quote s = (q : Sides) × TimeOfEntry quote_sides n window es s.time q
+TimeByStep OfReference n window es Average s = (p : ℤ) × TimeOfEntry trade_price n window es s.time p
 TimeByStep OfReference n window es Theory s = s.time ≡ None
 TimeByStep OfReference n window es TheoryUp s = s.time ≡ None
 TimeByStep OfReference n window es Spread s =
-    (b : Settlement) × OfReference b × TimedBy spread_value n window es s.time (b.price -ℤ s.price)
+    (b : Settlement) × OfReference b × TimeOfEntry spread_value n window es s.time (b.price -ℤ s.price)
 TimeByStep OfReference n window es PreviousSpread s = s.time ≡ None
 TimeByStep OfReference n window es Copy s = (b : Settlement) × OfReference b × (s.price ≡ b.price) × (s.time ≡ b.time)
 TimeByStep OfReference n window es Previous s = s.time ≡ None

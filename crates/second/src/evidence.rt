@@ -129,8 +129,8 @@ impl Evidence<'_> {
         last
     }
 
-    // The last entry that a step looks at, if it looks at entries: it has the time of what the step finds. Of an average that is the last
-    // of the trades in it.
+    // The entry whose stamp is the step's time, if the step looks at entries: the last of its kind in the window, for an average the last
+    // trade.
     pub(crate) fn entry_of(&self, letter: char) -> Option<Entry> {
         match letter {
             'A' => self.last(|kind| matches!(kind, Kind::Auction(_))),

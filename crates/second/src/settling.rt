@@ -10,7 +10,8 @@ pub(crate) struct Price {
     pub(crate) price: i64,
     pub(crate) step: char,
     pub(crate) place: usize,
-    // The stamp of the entry on which the price rests, of a copy that of the reference's price; none where there is no entry.
+    // The stamp of the entry that the step looked at, of a copy the time of the reference's answer; none for a step that looks at no
+    // entry.
     pub(crate) time: Option<i64>,
 }
 

@@ -31,7 +31,7 @@ fn trade(stamp: i64, price: i64) -> Entry {
     entry(stamp, Kind::Trade { price, lots: 1 })
 }
 
-fn last<V>(stamp: i32, value: V) -> Option<Last<V>> {
+fn last_figure<V>(stamp: i32, value: V) -> Option<Last<V>> {
     Some(Last { stamp, value })
 }
 
@@ -43,10 +43,10 @@ fn quote(stamp: i64, bid: Option<i64>, ask: Option<i64>) -> Entry {
 fn last_trade<B: Book>(rt: &impl Abort, book: &mut B) -> Result<(), Fail> {
     book.take(trade(140_000, 10))?;
     book.take(trade(139_999, 20))?;
-    assert_eq!(rt; book.figures(0, 1).trade, last(140_000, 10));
+    assert_eq!(rt; book.figures(0, 1).trade, last_figure(140_000, 10));
     book.take(trade(140_000, 30))?;
     book.take(entry(140_001, Kind::Leg { price: 40, lots: 1 }))?;
-    assert_eq!(rt; book.figures(0, 1).trade, last(140_000, 30));
+    assert_eq!(rt; book.figures(0, 1).trade, last_figure(140_000, 30));
     assert_eq!(rt; book.figures(0, 1).money, 60);
     Ok(())
 }
@@ -56,7 +56,7 @@ fn last_quote<B: Book>(rt: &impl Abort, book: &mut B) -> Result<(), Fail> {
     book.take(quote(140_000, Some(5), None))?;
     assert_eq!(rt;
         book.figures(0, 1).quote,
-        last(
+        last_figure(
             140_000,
             Sides {
                 bid: Some(5),
@@ -67,7 +67,7 @@ fn last_quote<B: Book>(rt: &impl Abort, book: &mut B) -> Result<(), Fail> {
     book.take(quote(140_000, None, None))?;
     assert_eq!(rt;
         book.figures(0, 1).quote,
-        last(
+        last_figure(
             140_000,
             Sides {
                 bid: None,
@@ -90,11 +90,12 @@ fn on_edges<B: Book>(rt: &impl Abort, book: &mut B, window: u8) -> Result<(), Fa
     book.take(trade(first, 2))?;
     book.take(trade(last, 3))?;
     let _ = book.take(trade(last.saturating_add(1), 4));
-    assert_eq!(rt; book.figures(0, window).lots, 2);
-    assert_eq!(rt;
-        book.figures(0, window).trade.map(|last| last.value),
-        Some(3)
-    );
+    let figures = book.figures(0, window);
+    assert_eq!(rt; figures.lots, 2);
+    let trade = figures
+        .trade
+        .map(|trade| (i64::from(trade.stamp), trade.value));
+    assert_eq!(rt; trade, Some((last, 3)));
     Ok(())
 }
 
@@ -103,7 +104,7 @@ fn filled<B: Book>(rt: &impl Abort, book: &mut B) -> Result<(), Fail> {
     book.take(trade(140_000, 10))?;
     assert_eq!(rt; book.take(trade(140_000, 20)), Err(BookFault::Full));
     assert_eq!(rt; book.take(trade(143_101, 20)), Err(BookFault::BeyondLimits));
-    assert_eq!(rt; book.figures(0, 1).trade, last(140_000, 10));
+    assert_eq!(rt; book.figures(0, 1).trade, last_figure(140_000, 10));
     Ok(())
 }
 
