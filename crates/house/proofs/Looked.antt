@@ -20,8 +20,8 @@ use Rattle.ladders.proofs.Nearest.{above_of_is, above_value, below_of_is, ceilin
 use Rattle.rows.specs.declared.steps.Step.{Step}
 use Rattle.rows.specs.declared.steps.Step.TheVariants.{Auction, Trade, Quote, Average, Theory, TheoryUp, Spread, PreviousSpread, Copy, Previous, Ruling}
 use Rattle.house.specs.Answers.{Answer, ruled_first}
-use Rattle.house.specs.Found.{above_theory, price_found, last_value, less, middle, nearest_theory, quoted, ruled}
-use Rattle.house.specs.Reach.{InReach, InReachBefore, reach}
+use Rattle.house.specs.Found.{above_theory, price_found, last_value, less, middle, nearest_theory, quoted, ruled, timed}
+use Rattle.house.specs.Reach.{InReach, InReachBefore, TimedInReach, reach}
 use Rattle.house.specs.Series.{lawful_ruling, lawful_series}
 use Rattle.house.specs.Terms.{lawful_spread}
 use Rattle.house.specs.declared.series.Ruling as rulings
@@ -162,6 +162,11 @@ price_found_reach P near n k p s f PreviousSpread h r b = less_reach n p s.terms
 price_found_reach P near n k p s f Copy h r b = before_reach n p r
 price_found_reach P near n k p s f Previous h r b = within_reach n s.terms.previous_settlement (series_parts n s h).previous_settlement
 price_found_reach P near n k p s f Ruling h r b = ruling_reach n s.ruling (series_parts n s h).ruling
+
+-- and so is that price with a time
+pub timed_reach : (n : ℕ) (price time : Option ℤ) → InReach n price → TimedInReach n (timed price time)
+timed_reach n None time h = tt
+timed_reach n (Some p) time h = h
 
 -- a ruling that stands with the first mark is the answer, and within the limit
 pub ruled_at_once : (n : ℕ) (s : Series) (r : rulings.Ruling) (more : Answer) → lawful_series n s ≡ true → s.ruling ≡ Some r → r.first ≡ true → (Ok (record { price = r.value; step = Ruling; place = 0; time = None }) ≡ ruled_first s.ruling more) × (nat_abs r.value ≤ reach n)

@@ -5,10 +5,11 @@ ghost use Rattle.std.specs.Prelude.{◌≡◌, ◌≤◌, true, unsigned_abs, If
 ghost use Rattle.book.specs.Bounds.{bounded};
 ghost use Rattle.book.specs.Entries.{spread_lawful};
 ghost use Rattle.house.specs.Answers.{price_of, time_of};
-ghost use Rattle.house.specs.Found.{above_theory, average, price_found, last_stamp, last_value, less, nearest_theory, quoted, time_found};
+ghost use Rattle.house.specs.Found.{above_theory, average, price_found, last_stamp, last_value, less, nearest_theory, quoted, time_found, timed};
 ghost use Rattle.house.specs.Reach.{InReachBefore};
 ghost use Rattle.ladders.specs.Values.{nearest_price};
 
+use crate::answers::TimedPrice;
 use crate::settling::{Question, price_of, time_of};
 use book::books::Book;
 use book::figures::{Figures, Last, Sides};
@@ -28,6 +29,20 @@ fn last_stamp<V: Copy>(last: Option<Last<V>>) -> Option<i32>
     ensures { result ≡ last_stamp last }
 {
     last.map(|last| last.stamp)
+}
+
+// A price, if there is one, with its time.
+fn timed(price: Option<i64>, time: Option<i32>) -> Option<TimedPrice>
+    ensures { result ≡ timed price time }
+{
+    price.map(|price| TimedPrice { price, time })
+}
+
+// A last figure as a price at its stamp.
+fn last_price(last: Option<Last<i32>>) -> Option<TimedPrice>
+    ensures { result ≡ timed (last_value last) (last_stamp last) }
+{
+    timed(last_value(last).map(i64::from), last_stamp(last))
 }
 
 // The reference's price less a spread: near month less far month, so that the far month is the near less the spread. No method,
@@ -77,45 +92,44 @@ impl<L: LadderSet, B: Book> Question<'_, L, B> {
             .above(self.series.terms.ladder, self.series.theory?)
     }
 
-    // The price that a step finds, with the figures of the step's window.
-    pub(crate) fn price_found(&self, figures: &Figures, step: Step) -> Option<i64>
+    // What a step finds, with the figures of the step's window: a price, and the time of its evidence.
+    pub(crate) fn find(&self, figures: &Figures, step: Step) -> Option<TimedPrice>
         requires { bounded 30000 figures.now ≡ true }
-        ensures { result ≡ price_found (L.lawful self.now.set.now self.now.series.terms.ladder) (price_of self.now.reference) self.now.series figures.now step }
+        ensures { let lawful = L.lawful self.now.set.now self.now.series.terms.ladder in
+            let reference = self.now.reference in
+            result ≡ timed (price_found lawful (price_of reference) self.now.series figures.now step) (time_found (time_of reference) figures.now step) }
     {
         let series = &self.series;
         let reference = price_of(self.reference);
         // A match, and no table of functions: the steps are closed, and look at different things.
         match step {
-            Step::Auction => last_value(figures.auction).map(i64::from),
-            Step::Trade => last_value(figures.trade).map(i64::from),
-            Step::Quote => self.quoted(last_value(figures.quote)),
-            Step::Average => self.average(figures.money, figures.lots),
-            Step::Theory => self.nearest_theory(),
-            Step::TheoryUp => self.above_theory(),
-            Step::Spread => less(
-                self.number,
-                reference,
-                last_value(figures.spread).map(i64::from),
+            Step::Auction => last_price(figures.auction),
+            Step::Trade => last_price(figures.trade),
+            Step::Quote => timed(
+                self.quoted(last_value(figures.quote)),
+                last_stamp(figures.quote),
             ),
-            Step::PreviousSpread => less(self.number, reference, series.terms.previous_spread),
-            Step::Copy => reference,
-            Step::Previous => series.terms.previous_settlement,
-            Step::Ruling => series.ruling.map(|ruling| ruling.value),
-        }
-    }
-
-    // The time of the evidence that a step looks for, with the figures of the step's window.
-    pub(crate) fn time_found(&self, figures: &Figures, step: Step) -> Option<i32>
-        ensures { result ≡ time_found (time_of self.now.reference) figures.now step }
-    {
-        match step {
-            Step::Auction => last_stamp(figures.auction),
-            Step::Trade | Step::Average => last_stamp(figures.trade),
-            Step::Quote => last_stamp(figures.quote),
-            Step::Spread => last_stamp(figures.spread),
-            Step::Copy => time_of(self.reference),
-            Step::Theory | Step::TheoryUp | Step::PreviousSpread | Step::Previous | Step::Ruling =>
+            Step::Average => timed(
+                self.average(figures.money, figures.lots),
+                last_stamp(figures.trade),
+            ),
+            Step::Theory => timed(self.nearest_theory(), None),
+            Step::TheoryUp => timed(self.above_theory(), None),
+            Step::Spread => timed(
+                less(
+                    self.number,
+                    reference,
+                    last_value(figures.spread).map(i64::from),
+                ),
+                last_stamp(figures.spread),
+            ),
+            Step::PreviousSpread => timed(
+                less(self.number, reference, series.terms.previous_spread),
                 None,
+            ),
+            Step::Copy => timed(reference, time_of(self.reference)),
+            Step::Previous => timed(series.terms.previous_settlement, None),
+            Step::Ruling => timed(series.ruling.map(|ruling| ruling.value), None),
         }
     }
 }

@@ -125,9 +125,7 @@ impl<L: LadderSet, B: Book> Question<'_, L, B> {
     {
         // A step that looks in no window reads none of the figures; no window is numbered 0.
         let figures = self.book.figures(self.number, place.window.unwrap_or(0));
-        let price = self.price_found(&figures, place.step)?;
-        let time = self.time_found(&figures, place.step);
-        Some(TimedPrice { price, time })
+        self.find(&figures, place.step)
     }
 
     // The first place of the row that finds a price.

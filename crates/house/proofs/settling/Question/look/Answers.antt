@@ -1,9 +1,8 @@
-use Rattle.std.proofs.Common.{◌≤◌, ℤ, nat_abs, sym, ap, ◌∙◌, subst, w64, SFits, rules}
-use Rattle.std.proofs.lemmas.Int.{to_z-of_z}
+use Rattle.std.proofs.Common.{sym, ap, ◌∙◌, subst}
 use Rattle.book.specs.Bounds.{bounded}
-use Rattle.house.specs.Answers.{price_of}
-use Rattle.house.specs.Reach.{InReach, reach}
-use Rattle.house.proofs.Looked.{price_found_reach}
+use Rattle.house.specs.Answers.{price_of, time_of}
+use Rattle.house.specs.Reach.{TimedInReach}
+use Rattle.house.proofs.Looked.{price_found_reach, timed_reach}
 use Rattle.house.proofs.settling.Question.look.Goals as goal
 
 pub returns-clause-reach : goal.returns-clause-reach
@@ -13,6 +12,4 @@ returns-clause-reach g c =
     let count = (g.B.Book.meaning a.book.now).count in
     let bounds = ap (bounded count) c.figures-figures.ensures ∙ (g.met.B.Book.lawful a.book.now).bounds a.number c.unwrap_or.result in
     let near = price_found_reach P (g.met.L.LadderSet.dense a.set.now a.series.terms.ladder) a.number count (price_of a.reference) a.series c.figures-figures.result c.args.place.step a.lawful a.reach bounds in
-    let price = c.in_ok-price.price in
-    let fits : SFits w64 price = search rules in
-    subst (λ (z : ℤ). nat_abs z ≤ reach a.number) (sym (to_z-of_z w64 price fits)) (subst (InReach a.number) (sym c.price_found.ensures ∙ c.in_ok-price.was) near)
+    subst (TimedInReach a.number) (sym c.find.ensures) (timed_reach a.number _ _ near)
