@@ -4,6 +4,7 @@ use Rattle.std.specs.Borrow.{Bor}
 use Rattle.std.specs.Option.{option_map_or, unwrap_or}
 use Rattle.std.proofs.Common.{sym, ap, ◌∙◌, subst, arith}
 use Rattle.std.proofs.lemmas.List.{at_drop_more, length-take, take_more, take_more_set}
+use Rattle.std.proofs.lemmas.Grind.{get_or_after_one}
 use Rattle.std.proofs.lemmas.Int.{ints}
 use Rattle.std.specs.List.{AllByRecursion}
 use Rattle.std.proofs.lemmas.Bool.{cond_both, leb-true}
@@ -73,8 +74,17 @@ module _ {D L : Type 0} (fault : D → Option LadderFault) (prices : D → ℤ �
   at_drop : (ds : List D) (i : ℕ) (d : D) → i < length ds → d ≡ slice_index_or ds i d → each_fault fault (drop i ds) ≡ or_else (fault d) (each_fault fault (drop (i + 1) ds))
   at_drop ds i d h read = at_drop_more (each_fault fault) ds i d h ∙ ap (λ x. or_else (fault x) (each_fault fault (drop (i + 1) ds))) (sym read)
 
+  pub faulty_at : (ds : List D) (i : ℕ) (d : D) (f : LadderFault) → i < length ds → d ≡ slice_index_or ds i d → each_fault fault ds ≡ each_fault fault (drop i ds) → fault d ≡ Some f → each_fault fault ds ≡ Some f
+  faulty_at ds i d f h read inv e = inv ∙ at_drop ds i d h read ∙ ap (λ o. or_else o (each_fault fault (drop (i + 1) ds))) e
+
   pub sound_at : (ds : List D) (i : ℕ) (d : D) → i < length ds → d ≡ slice_index_or ds i d → each_fault fault ds ≡ each_fault fault (drop i ds) → fault d ≡ None → each_fault fault ds ≡ each_fault fault (drop (i + 1) ds)
   sound_at ds i d h read inv e = inv ∙ at_drop ds i d h read ∙ ap (λ o. or_else o (each_fault fault (drop (i + 1) ds))) e
+
+  -- what stands at a place of the list behind the first
+  pub at_later : (ds later : List D) (i : ℕ) (d : D) → later ≡ drop 1 ds → d ≡ slice_index_or later i d → d ≡ slice_index_or ds (i + 1) d
+  at_later ds later i d is read =
+      let one_on : 1 + i ≡ i + 1 = omega arith in
+      read ∙ ap (λ (xs : List D). slice_index_or xs i d) is ∙ get_or_after_one ds i d ∙ ap (λ k. slice_index_or ds k d) one_on
 
   described_push : (ds : List D) (ls : List L) (d : D) (l : L) → AsDescribed prices holds ds ls → ((v : ℤ) → holds l v ≡ prices d v) → AsDescribed prices holds (ds ++ (d ∷ [])) (ls ++ (l ∷ []))
   described_push [] [] d l t e = (e, tt)

@@ -91,11 +91,12 @@ impl<L: Ladder> SetOf<L> {
         ensures prices { IfOk result (λ s. PricesByLadder D.Describes.lawful_prices described.now (⟦<SetOf<L> as LadderSet>⟧.lawful s)) }
     {
         let count = checked_count(described.len())?;
-        // The first is checked twice, as the array needs a filler.
-        let mut ladders = [described[0].checked()?; 16];
+        let (first, later) = described.split_first().ok_or(LadderFault::NoLadder)?;
+        // The first fills the array, and is not checked again.
+        let mut ladders = [first.checked()?; 16];
         // By place, since a zip with `iter_mut` leaves the proof without the array's values.
-        for (i, next) in described.iter().enumerate() {
-            ladders[i] = next.checked()?;
+        for (i, next) in later.iter().enumerate() {
+            ladders[i + 1] = next.checked()?;
         }
         Ok(SetOf { ladders, count })
     }
