@@ -40,36 +40,49 @@ fn second_before(stamp: i64) -> i64
     if 0 < stamp { stamp - 1 } else { stamp }
 }
 
-/// The windows of the day by their numbers, each a first and a last second, both included, from the midnight that begins the evening
-/// session's date: the rules have them as pairs. Number 0 is no window, and empty.
+/// The first and the last second of a window of the day, both included, from the midnight that begins the evening session's date; of
+/// a number that no window has, an empty one. The window is a raw number, since a narrower type would ask more of callers.
+pub fn edges(day: &Day, window: u8) -> (i64, i64)
+    ensures { result ≡ edges day.now window }
+{
+    match window {
+        1 => (day.night, day.close),
+        2 => (day.opening, day.close),
+        3 => (AT_14_50, day.close),
+        4 => (day.afternoon, day.close),
+        5 => (AT_15_30, day.close),
+        6 => (AT_13_45, AT_15_45),
+        7 => (AT_08_45, AT_15_45),
+        8 => (day.opening, AT_11_02),
+        9 => (day.night, AT_11_02),
+        10 => (AT_10_45, AT_11_00),
+        11 => (day.opening, second_before(day.cut)),
+        12 => (day.night, second_before(day.cut)),
+        13 => (AT_10_45, second_before(day.cut)),
+        _ => NOTHING,
+    }
+}
+
+/// The windows of the day by their numbers, each a first and a last second, as the rules have them in pairs. Number 0 is no window, and
+/// empty.
+// A tape asks for one window, and a board for all: so each is worked out by itself, and listed here.
 pub fn windows(day: &Day) -> [(i64, i64); 14]
     ensures { result ≡ windows day.now }
 {
     [
         NOTHING,
-        (day.night, day.close),
-        (day.opening, day.close),
-        (AT_14_50, day.close),
-        (day.afternoon, day.close),
-        (AT_15_30, day.close),
-        (AT_13_45, AT_15_45),
-        (AT_08_45, AT_15_45),
-        (day.opening, AT_11_02),
-        (day.night, AT_11_02),
-        (AT_10_45, AT_11_00),
-        (day.opening, second_before(day.cut)),
-        (day.night, second_before(day.cut)),
-        (AT_10_45, second_before(day.cut)),
+        edges(day, 1),
+        edges(day, 2),
+        edges(day, 3),
+        edges(day, 4),
+        edges(day, 5),
+        edges(day, 6),
+        edges(day, 7),
+        edges(day, 8),
+        edges(day, 9),
+        edges(day, 10),
+        edges(day, 11),
+        edges(day, 12),
+        edges(day, 13),
     ]
-}
-
-/// The first and the last second of a window of the day, from the same midnight; of a number that no window has, an empty one. The window is a raw
-/// number, since a narrower type would ask more of callers.
-pub fn edges(day: &Day, window: u8) -> (i64, i64)
-    ensures { result ≡ edges day.now window }
-{
-    windows(day)
-        .get(usize::from(window))
-        .copied()
-        .unwrap_or(NOTHING)
 }
